@@ -1,0 +1,10 @@
+pub mod Follow
+pub mod Plans
+pub mod Busy
+pub mod Numbers
+pub mod Checks
+pub mod Refusals
+pub mod Nights
+pub mod Rule
+pub mod Statements
+pub mod Verdicts

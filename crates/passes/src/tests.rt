@@ -1,0 +1,67 @@
+use crate::judging::Fault;
+use crate::judging::Verdict;
+use crate::judging::judge;
+use crate::refusals::Refusal;
+use std::test::*;
+
+// Five passes that any dish may follow, four numbers each.
+const FIVE: [u32; 20] = [
+    0, 10, 5, 15, //
+    5, 15, 9, 15, //
+    12, 20, 6, 15, //
+    16, 25, 4, 15, //
+    21, 30, 7, 15,
+];
+
+// The first three of them, with marks of dishes 0, 0 and 1.
+const MARKED: [u32; 12] = [
+    0, 10, 5, 1, //
+    5, 15, 9, 1, //
+    12, 20, 6, 2,
+];
+
+const TOUCHING: [u32; 8] = [0, 10, 5, 15, 10, 20, 5, 15];
+
+#[test]
+fn good_plans() -> Result<(), Fail> {
+    check_eq(judge(1, 0, &FIVE, &[1, 0, 1, 0, 1]), Ok(Verdict::Good(18)))?;
+    check_eq(judge(1, 3, &FIVE, &[0, 1, 0, 0, 1]), Ok(Verdict::Good(16)))?;
+    check_eq(judge(2, 0, &FIVE, &[2, 1, 2, 1, 2]), Ok(Verdict::Good(31)))?;
+    check_eq(judge(2, 3, &FIVE, &[2, 1, 0, 2, 1]), Ok(Verdict::Good(25)))?;
+    check_eq(judge(2, 0, &MARKED, &[0, 1, 2]), Ok(Verdict::Good(15)))?;
+    check_eq(judge(1, 0, &[], &[]), Ok(Verdict::Good(0)))
+}
+
+#[test]
+fn bad_plans() -> Result<(), Fail> {
+    let may_not = Fault::MayNotFollow;
+    check_eq(judge(2, 0, &MARKED, &[1, 0, 1]), Ok(Verdict::Bad(2, may_not)))?;
+    // a mark of a dish that isn't there doesn't count
+    check_eq(judge(1, 0, &MARKED, &[0, 0, 2]), Ok(Verdict::Bad(2, Fault::NoSuchDish)))?;
+    check_eq(judge(1, 0, &MARKED, &[0, 0, 1]), Ok(Verdict::Bad(2, may_not)))?;
+    check_eq(judge(4, 0, &FIVE, &[0, 255, 0, 0, 0]), Ok(Verdict::Bad(1, Fault::NoSuchDish)))?;
+    // of several faults the first pass, and of several near ones the first other
+    check_eq(judge(2, 0, &FIVE, &[0, 1, 1, 1, 3]), Ok(Verdict::Bad(1, Fault::TooNear(2))))?;
+    check_eq(judge(1, 7, &FIVE, &[1, 0, 1, 0, 1]), Ok(Verdict::Bad(0, Fault::TooNear(2))))
+}
+
+#[test]
+fn touching_passes() -> Result<(), Fail> {
+    check_eq(judge(1, 0, &TOUCHING, &[1, 1]), Ok(Verdict::Good(10)))?;
+    check_eq(judge(1, 1, &TOUCHING, &[1, 1]), Ok(Verdict::Bad(0, Fault::TooNear(1))))?;
+    check_eq(judge(2, 1, &TOUCHING, &[2, 1]), Ok(Verdict::Good(10)))?;
+    check_eq(judge(1, 1, &TOUCHING, &[0, 1]), Ok(Verdict::Good(5)))
+}
+
+#[test]
+fn stations_turned_away() -> Result<(), Fail> {
+    check_eq(judge(0, 0, &FIVE, &[0; 5]), Err(Refusal::BadDishes))?;
+    check_eq(judge(5, 0, &FIVE, &[0; 5]), Err(Refusal::BadDishes))?;
+    check_eq(judge(4, 100_001, &FIVE, &[0; 5]), Err(Refusal::BadTurning))?;
+    check_eq(judge(u64::MAX, u64::MAX, &FIVE, &[0; 5]), Err(Refusal::BadDishes))?;
+    // before the passes, and these before the room
+    check_eq(judge(1, 100_001, &[7], &[0; 5]), Err(Refusal::BadTurning))?;
+    check_eq(judge(1, 0, &[7], &[0; 5]), Err(Refusal::BadPass(0)))?;
+    check_eq(judge(1, 0, &FIVE, &[0; 4]), Err(Refusal::BadRoom(4)))?;
+    check_eq(judge(4, 100_000, &FIVE, &[0; 5]), Ok(Verdict::Good(0)))
+}
