@@ -1,7 +1,11 @@
 use crate::judging::Fault;
 use crate::judging::Verdict;
+use crate::judging::VerdictDebug;
+use crate::judging::VerdictPartialEq;
 use crate::judging::judge;
 use crate::refusals::Refusal;
+use crate::refusals::RefusalDebug;
+use crate::refusals::RefusalPartialEq;
 use std::test::*;
 
 // Five passes that any dish may follow, four numbers each.
@@ -64,4 +68,60 @@ fn stations_turned_away() -> Result<(), Fail> {
     check_eq(judge(1, 0, &[7], &[0; 5]), Err(Refusal::BadPass(0)))?;
     check_eq(judge(1, 0, &FIVE, &[0; 4]), Err(Refusal::BadRoom(4)))?;
     check_eq(judge(4, 100_000, &FIVE, &[0; 5]), Ok(Verdict::Good(0)))
+}
+
+// One pass, then a second one.
+fn second(from: u32, to: u32, worth: u32, marks: u32) -> [u32; 8] {
+    [5, 10, 1, 15, from, to, worth, marks]
+}
+
+#[test]
+fn passes_turned_away() -> Result<(), Fail> {
+    let at_1 = Err(Refusal::BadPass(1));
+    check_eq(judge(1, 0, &second(5, 1_000_000, 1_000_000, 15), &[0, 1]), Ok(Verdict::Good(1_000_000)))?;
+    check_eq(judge(1, 0, &second(4, 10, 1, 15), &[0; 2]), at_1).note("before the one before it")?;
+    check_eq(judge(1, 0, &second(10, 10, 1, 15), &[0; 2]), at_1).note("no end after its begin")?;
+    check_eq(judge(1, 0, &second(5, 1_000_001, 1, 15), &[0; 2]), at_1).note("ends too late")?;
+    check_eq(judge(1, 0, &second(5, 10, 1_000_001, 15), &[0; 2]), at_1).note("worth too much")?;
+    check_eq(judge(1, 0, &second(5, 10, 1, 16), &[0; 2]), at_1).note("marks of a fifth dish")?;
+    check_eq(judge(1, 0, &[10, 5, 1, 15, 0, 0, 0, 99], &[0; 2]), Err(Refusal::BadPass(0))).note("two at fault")?;
+    check_eq(judge(1, 0, &[0, 1, 2, 3, 4, 5, 6], &[0]), at_1).note("cut off")
+}
+
+// Forty-nine passes, each of which ends as the next one begins.
+fn chain() -> [u32; 196] {
+    let mut numbers = [15; 196];
+    for i in 0..49 {
+        let from = 10 * i as u32;
+        numbers[4 * i] = from;
+        numbers[4 * i + 1] = from + 10;
+        numbers[4 * i + 2] = 1_000_000;
+    }
+    numbers
+}
+
+#[test]
+fn long_lists() -> Result<(), Fail> {
+    let mut numbers = chain();
+    check_eq(judge(1, 0, &numbers[0..192], &[1; 48]), Ok(Verdict::Good(48_000_000)))?;
+    check_eq(judge(1, 0, &numbers, &[1; 49]), Err(Refusal::BadPass(48)))?;
+    // a fault further on doesn't matter, and one further in front does
+    check_eq(judge(1, 0, &numbers[0..193], &[1; 49]), Err(Refusal::BadPass(48)))?;
+    numbers[4 * 7 + 3] = 16;
+    check_eq(judge(1, 0, &numbers, &[1; 49]), Err(Refusal::BadPass(7)))
+}
+
+#[test]
+fn numbers_and_places() -> Result<(), Fail> {
+    let table = [
+        (Refusal::BadDishes, 1, 0),
+        (Refusal::BadTurning, 1, 1),
+        (Refusal::BadPass(7), 2, 7),
+        (Refusal::BadRoom(3), 3, 3),
+    ];
+    for (refusal, number, place) in table {
+        check_eq(refusal.number(), number)?;
+        check_eq(refusal.place(), place)?;
+    }
+    Ok(())
 }

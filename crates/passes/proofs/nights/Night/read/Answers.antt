@@ -20,8 +20,8 @@ pub returns-in-Break-station : need.returns-in-Break-station
 unfolding refused
 returns-in-Break-station c =
     let p = err-from-errBy (c .from-residual .result) (c .from-residual .ensures .1) in
-    let turned-away = ap (λ o. or-else o (list-refused (c .args .numbers .now))) (c .in-Break-station .ensures tt .refusal) in
-    record { refusal = rw (p .1, p .2) turned-away; night = rw (p .1) tt }
+    let told = c .in-Break-station .ensures tt .refusal in
+    record { refusal = rw (p .1, p .2, ← told) refl; night = rw (p .1) tt }
 
 pub index-passes-i : need.index-passes-i
 index-passes-i c = sound-says _ _ (c .in-Some .ensures tt .0) .early
