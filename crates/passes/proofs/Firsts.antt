@@ -40,8 +40,8 @@ module _ (ok : ℕ → Bool) where
       ⊎-elim
       (λ before. absurd (both-ways (ok j) (h .2) (g .3 j (h .0) before)))
       (λ rest.
-          ⊎-elim
-          (λ after. absurd (both-ways (ok k) (g .2) (h .3 k (g .0) after)))
-          (λ none. ap Some (omega arith))
-          (cases-lt k j))
+      ⊎-elim
+      (λ after. absurd (both-ways (ok k) (g .2) (h .3 k (g .0) after)))
+      (λ none. ap Some (omega arith))
+      (cases-lt k j))
       (cases-lt j k)

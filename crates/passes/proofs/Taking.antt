@@ -68,8 +68,8 @@ module _ (xs : List ℕ) (all : (k : ℕ) → k < begun xs → sound xs k ≡ tr
       same-lists _ _
       (long-take ∙ omega (arith, fours, length-passes-in xs))
       (λ k d h.
-          let l : k < begun xs = omega arith in
-          getD-take (begun xs) room k d l ∙ getD-default room k d no-pass (omega (arith, fours)) ∙ filled k l ∙ sym (getD-passes-in xs k d (omega (arith, fours))))
+      let l : k < begun xs = omega arith in
+      getD-take (begun xs) room k d l ∙ getD-default room k d no-pass (omega (arith, fours)) ∙ filled k l ∙ sym (getD-passes-in xs k d (omega (arith, fours))))
 
   -- and the list passes the checks
   pub list-checked : (s : Station) → dishes-ok (s .dishes) ≡ true → turning-ok (s .turn) ≡ true → checked s (passes-in xs) ≡ true

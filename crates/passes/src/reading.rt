@@ -13,9 +13,13 @@ use crate::nights::Night;
 use crate::refusals::Refusal;
 
 const MAX_DISHES: u64 = 4;
+
 const MAX_TURN: u64 = 100_000;
+
 const MAX_SECOND: u32 = 1_000_000;
+
 const MAX_WORTH: u32 = 1_000_000;
+
 const MAX_MARKS: u32 = 15;
 
 // What stands in a night's room past its last pass.

@@ -38,8 +38,8 @@ loop-i-again c =
       simp length-set (c .loop-i .inv .0),
       below-more _ _ (c .loop-i .inv .1) (c .in-Some .ensures tt .0),
       below-more _ _
-      (λ k h. let ne : k ≢ c .loop-i .i = omega arith in rw getD-set-other (c .loop-i .inv .2 k h))
-      (rw getD-set-same (c .in-Some .ensures tt .1)),
+          (λ k h. let ne : k ≢ c .loop-i .i = omega arith in rw getD-set-other (c .loop-i .inv .2 k h))
+          (rw getD-set-same (c .in-Some .ensures tt .1)),
     )
 
 -- where the loop ends, it has looked at every pass that the numbers begin

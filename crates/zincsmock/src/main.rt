@@ -1,0 +1,92 @@
+// Judges the example plans and prints what is said of each.
+use passes::Fault;
+use passes::Refusal;
+use passes::Verdict;
+use passes::judge;
+use std::io;
+
+// Five passes that any dish may follow: from, to, worth, marks.
+const FIVE: [u32; 20] = [
+    0,
+    10,
+    5,
+    15, //
+    5,
+    15,
+    9,
+    15, //
+    12,
+    20,
+    6,
+    15, //
+    16,
+    25,
+    4,
+    15, //
+    21,
+    30,
+    7,
+    15,
+];
+
+// The first three of them, with marks of dishes 0, 0 and 1.
+const MARKED: [u32; 12] = [
+    0,
+    10,
+    5,
+    1, //
+    5,
+    15,
+    9,
+    1, //
+    12,
+    20,
+    6,
+    2,
+];
+
+// Prints a plan and what is said of it, on one line.
+fn report(
+    rt: &LibcRuntime,
+    dishes: u64,
+    turn: u64,
+    numbers: &[u32],
+    plan: &[u8],
+) -> io::Result<()> {
+    print!(rt, "dishes {dishes} turn {turn} plan")?;
+    for named in plan {
+        print!(rt, " {named}")?;
+    }
+    match judge(dishes, turn, numbers, plan) {
+        Ok(Verdict::Good(worth)) => println!(rt, ": good, worth {worth}"),
+        Ok(Verdict::Bad(pass, fault)) => report_fault(rt, pass, fault),
+        Err(refusal) => report_refusal(rt, refusal),
+    }
+}
+
+fn report_fault(rt: &LibcRuntime, pass: usize, fault: Fault) -> io::Result<()> {
+    match fault {
+        Fault::NoSuchDish => println!(rt, ": not good, pass {pass}: no such dish"),
+        Fault::MayNotFollow => println!(rt, ": not good, pass {pass}: the dish may not follow it"),
+        Fault::TooNear(other) => println!(rt, ": not good, pass {pass}: too near to pass {other}"),
+    }
+}
+
+fn report_refusal(rt: &LibcRuntime, refusal: Refusal) -> io::Result<()> {
+    let number = refusal.number();
+    let place = refusal.place();
+    println!(rt, ": turned away, number {number} at {place}")
+}
+
+fn main(rt: LibcRuntime) -> io::Result<()> {
+    report(&rt, 1, 0, &FIVE, &[1, 0, 1, 0, 1])?;
+    report(&rt, 1, 3, &FIVE, &[0, 1, 0, 0, 1])?;
+    report(&rt, 2, 0, &FIVE, &[2, 1, 2, 1, 2])?;
+    report(&rt, 2, 3, &FIVE, &[2, 1, 0, 2, 1])?;
+    report(&rt, 2, 0, &MARKED, &[0, 1, 2])?;
+    report(&rt, 2, 0, &MARKED, &[1, 0, 1])?;
+    report(&rt, 1, 3, &FIVE, &[1, 0, 1, 0, 1])?;
+    report(&rt, 1, 0, &MARKED, &[0, 1, 2])?;
+    report(&rt, 5, 0, &FIVE, &[1, 0, 1, 0, 1])?;
+    report(&rt, 1, 0, &FIVE, &[1, 0, 1])
+}
