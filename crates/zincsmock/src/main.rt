@@ -5,59 +5,38 @@ use passes::Verdict;
 use passes::judge;
 use std::io;
 
-// Five passes that any dish may follow: from, to, worth, marks.
-const FIVE: [u32; 20] = [
-    0,
-    10,
-    5,
-    15, //
-    5,
-    15,
-    9,
-    15, //
-    12,
-    20,
-    6,
-    15, //
-    16,
-    25,
-    4,
-    15, //
-    21,
-    30,
-    7,
-    15,
+// Passes by their four numbers: from, to, worth, marks.
+type Passes<'a> = &'a [[u32; 4]];
+
+// Five passes that any dish may follow.
+const FIVE: [[u32; 4]; 5] = [
+    [0, 10, 5, 15],
+    [5, 15, 9, 15],
+    [12, 20, 6, 15],
+    [16, 25, 4, 15],
+    [21, 30, 7, 15],
 ];
 
 // The first three of them, with marks of dishes 0, 0 and 1.
-const MARKED: [u32; 12] = [
-    0,
-    10,
-    5,
-    1, //
-    5,
-    15,
-    9,
-    1, //
-    12,
-    20,
-    6,
-    2,
-];
+const MARKED: [[u32; 4]; 3] = [[0, 10, 5, 1], [5, 15, 9, 1], [12, 20, 6, 2]];
 
 // Prints a plan and what is said of it, on one line.
 fn report(
     rt: &LibcRuntime,
     dishes: u64,
     turn: u64,
-    numbers: &[u32],
+    passes: Passes<'_>,
     plan: &[u8],
 ) -> io::Result<()> {
+    let mut numbers = Vec::new(rt.alloc());
+    for pass in passes {
+        numbers.extend_from_slice(pass)?;
+    }
     print!(rt, "dishes {dishes} turn {turn} plan")?;
     for named in plan {
         print!(rt, " {named}")?;
     }
-    match judge(dishes, turn, numbers, plan) {
+    match judge(dishes, turn, numbers.as_slice(), plan) {
         Ok(Verdict::Good(worth)) => println!(rt, ": good, worth {worth}"),
         Ok(Verdict::Bad(pass, fault)) => report_fault(rt, pass, fault),
         Err(refusal) => report_refusal(rt, refusal),
