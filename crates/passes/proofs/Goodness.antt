@@ -66,23 +66,23 @@ fits-one-from s p d qs ds h =
 module _ (s : Station) (p : Pass) (ps : List Pass) (d : ℕ) (ds : Plan) where
   -- two passes clash as they do in a list with one more in front
   clash-more : (i j : ℕ) → Clash s ps ds i j → Clash s (p ∷ ps) (d ∷ ds) (suc i) (suc j)
-  clash-more i j c = record { two = omega (arith, c .two); within = omega (arith, c .within); same-dish = c .same-dish; too-near = c .too-near }
+  clash-more i j c = record { two = omega (arith, c .two); within = omega (arith, c .within); followed = c .followed; same-dish = c .same-dish; too-near = c .too-near }
 
   clash-less : (i j : ℕ) → Clash s (p ∷ ps) (d ∷ ds) (suc i) (suc j) → Clash s ps ds i j
-  clash-less i j c = record { two = λ e. c .two (ap suc e); within = omega (arith, c .within); same-dish = c .same-dish; too-near = c .too-near }
+  clash-less i j c = record { two = λ e. c .two (ap suc e); within = omega (arith, c .within); followed = c .followed; same-dish = c .same-dish; too-near = c .too-near }
 
   module _ (here : Fits-one s p d ps ds) (rest : Good-plan s ps ds) where
     -- the pass in front clashes with none
-    front-clear : 0 < d → (j : ℕ) → Clash s (p ∷ ps) (d ∷ ds) 0 j → ⊥
-    front-clear more zero c = c .two refl
-    front-clear more (suc j) c =
-        both-ways _ (c .too-near) (free-says s p d ps ds (rest .one-each) (here .free more) j (omega (arith, c .within)) (c .same-dish))
+    front-clear : (j : ℕ) → Clash s (p ∷ ps) (d ∷ ds) 0 j → ⊥
+    front-clear zero c = c .two refl
+    front-clear (suc j) c =
+        both-ways _ (c .too-near) (free-says s p d ps ds (rest .one-each) (here .free (c .followed)) j (omega (arith, c .within)) (c .same-dish))
 
-    later-clear : (i : ℕ) → i < length ps → 0 < says ds i → (j : ℕ) → Clash s (p ∷ ps) (d ∷ ds) (suc i) j → ⊥
-    later-clear i l more zero c =
+    later-clear : (i : ℕ) → i < length ps → (j : ℕ) → Clash s (p ∷ ps) (d ∷ ds) (suc i) j → ⊥
+    later-clear i l zero c =
         let same = sym (c .same-dish) in
-        both-ways _ (one-after-sym (s .turn) p (nth ps i) ∙ c .too-near) (free-says s p d ps ds (rest .one-each) (here .free (omega arith)) i l same)
-    later-clear i l more (suc j) c = rest .each i l .no-clash more j (clash-less i j c)
+        both-ways _ (one-after-sym (s .turn) p (nth ps i) ∙ c .too-near) (free-says s p d ps ds (rest .one-each) (here .free (omega (arith, c .followed))) i l same)
+    later-clear i l (suc j) c = rest .each i l .no-clash j (clash-less i j c)
 
     -- nothing is wrong with a list whose first pass and whose others are sound
     all-sound : (i : ℕ) → i < length (p ∷ ps) → Sound-at s (p ∷ ps) (d ∷ ds) i
@@ -101,7 +101,7 @@ module _ (s : Station) (p : Pass) (ps : List Pass) (d : ℕ) (ds : Plan) where
           free = λ more. free-from s p d ps ds (omega (arith, good .one-each)) (λ j l same.
               ⊎-elim
               (λ after. after)
-              (λ near. absurd (r .no-clash more (suc j) (record { two = omega arith; within = omega arith; same-dish = same; too-near = near })))
+              (λ near. absurd (r .no-clash (suc j) (record { two = omega arith; within = omega arith; followed = more; same-dish = same; too-near = near })))
               (cases-bool _));
         }
 
@@ -110,7 +110,7 @@ module _ (s : Station) (p : Pass) (ps : List Pass) (d : ℕ) (ds : Plan) where
       one-each = omega (arith, good .one-each);
       each = λ i l.
           let r = good .each (suc i) (omega arith) in
-          record { there = r .there; hears = r .hears; no-clash = λ more j c. r .no-clash more (suc j) (clash-more i j c) };
+          record { there = r .there; hears = r .hears; no-clash = λ j c. r .no-clash (suc j) (clash-more i j c) };
     }
 
 -- a plan that passes the test is good
@@ -137,7 +137,7 @@ fits-from s (p ∷ ps) (d ∷ ds) h =
 wrong-unsound : (s : Station) (ps : List Pass) (ds : Plan) (i : ℕ) (f : Fault) → Wrong-with s ps ds i f → Sound-at s ps ds i → ⊥
 wrong-unsound s ps ds i NoSuchDish w h = omega (arith, h .there)
 wrong-unsound s ps ds i MayNotFollow w h = both-ways _ (w .2) (h .hears (w .0))
-wrong-unsound s ps ds i (TooNear j) w h = h .no-clash (w .0) j (w .3)
+wrong-unsound s ps ds i (TooNear j) w h = h .no-clash j (w .3 .0)
 
 -- a plan with which something is wrong is not good
 pub wrong-unfit : (s : Station) (ps : List Pass) (ds : Plan) (i : ℕ) (f : Fault) → i < length ps → Wrong-with s ps ds i f → fits s ps ds ≡ false

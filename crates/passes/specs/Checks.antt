@@ -7,6 +7,10 @@ use lib.ListN.{length}
 use Rattle.passes.specs.declared.model.Pass.{Pass}
 use Rattle.passes.specs.declared.model.Station.{Station}
 
+-- how many passes a list may have
+abbrev pub most-passes : ℕ
+most-passes = 48
+
 -- 1 to 4 dishes
 unfoldable pub dishes-ok : ℕ → Bool
 dishes-ok k = leb 1 k && leb k 4
@@ -29,6 +33,6 @@ sorted [] = true
 sorted (p ∷ []) = true
 sorted (p ∷ (q ∷ ps)) = leb (p .from) (q .from) && sorted (q ∷ ps)
 
--- all that is asked of a station and its passes, of which there are at most 48
+-- all that is asked of a station and its passes
 unfoldable pub checked : Station → List Pass → Bool
-checked s ps = dishes-ok (s .dishes) && (turning-ok (s .turn) && (leb (length ps) 48 && (all-in-range ps && sorted ps)))
+checked s ps = dishes-ok (s .dishes) && (turning-ok (s .turn) && (leb (length ps) most-passes && (all-in-range ps && sorted ps)))

@@ -7,7 +7,7 @@ use lib.ListN.{length, getD}
 use Rattle.std.specs.declared.option.Option.{Option}
 use Rattle.std.specs.declared.option.Option.the-variants.{Some, None}
 use Rattle.passes.specs.declared.model.Pass.{Pass}
-use Rattle.passes.specs.Checks.{in-range}
+use Rattle.passes.specs.Checks.{most-passes, in-range}
 
 -- the passes that a list of numbers stands for, four to a pass: from, to, worth, marks
 unfoldable pub passes-in : List ℕ → List Pass
@@ -29,9 +29,9 @@ begun xs = (length xs + 3) / 4
 unfoldable pub in-order : List ℕ → ℕ → Bool
 in-order xs i = eqb i 0 || leb (getD xs (4 * (i - 1)) 0) (getD xs (4 * i) 0)
 
--- pass i of a list is not at fault: it is among the first 48, has its four numbers, is in range and in order
+-- pass i of a list is not at fault: it is among the first 48 (`most-passes`), has its four numbers, is in range and in order
 unfoldable pub sound : List ℕ → ℕ → Bool
-sound xs i = ltb i 48 && (leb (4 * i + 4) (length xs) && (in-range (pass-at xs i) && in-order xs i))
+sound xs i = ltb i most-passes && (leb (4 * i + 4) (length xs) && (in-range (pass-at xs i) && in-order xs i))
 
 -- the first of the n numbers from i on that fails a test
 unfoldable pub first-failing : (ℕ → Bool) → ℕ → ℕ → Option ℕ

@@ -26,14 +26,19 @@ says ds i = getD ds i 0
 pub record Clash (s : Station) (ps : List Pass) (ds : Plan) (i j : ℕ) : Type 0 where
   pub two : i ≢ j
   pub within : j < length ps
+  pub followed : 0 < says ds i
   pub same-dish : says ds i ≡ says ds j
   pub too-near : one-after (s .turn) (nth ps i) (nth ps j) ≡ false
+
+-- j is the first pass of the list that clashes with pass i
+abbrev pub First-clash : Station → List Pass → Plan → ℕ → ℕ → Type 0
+First-clash s ps ds i j = Clash s ps ds i j × ((k : ℕ) → k < j → Clash s ps ds i k → ⊥)
 
 -- nothing is wrong with pass i of a plan: if it is followed, its dish is there, may follow it, and has time to turn from and to any other
 pub record Sound-at (s : Station) (ps : List Pass) (ds : Plan) (i : ℕ) : Type 0 where
   pub there : says ds i ≤ s .dishes
   pub hears : 0 < says ds i → may (nth ps i) (says ds i - 1) ≡ true
-  pub no-clash : 0 < says ds i → (j : ℕ) → Clash s ps ds i j → ⊥
+  pub no-clash : (j : ℕ) → Clash s ps ds i j → ⊥
 
 -- a good plan has a number for each pass, and nothing is wrong with any
 pub record Good-plan (s : Station) (ps : List Pass) (ds : Plan) : Type 0 where

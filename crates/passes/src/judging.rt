@@ -4,11 +4,12 @@ ghost use lib.ListN.{length};
 ghost use Rattle.std.specs.Options.{Cases};
 ghost use Rattle.std.specs.Results.{errPart};
 ghost use Rattle.std.specs.Vec.{made};
+ghost use Rattle.passes.specs.Checks.{most-passes};
 ghost use Rattle.passes.specs.Nights.{passes-of, station-of};
 ghost use Rattle.passes.specs.Numbers.{passes-in};
 ghost use Rattle.passes.specs.Plans.{worth-of};
 ghost use Rattle.passes.specs.Refusals.{room-refused, refused-with-room};
-ghost use Rattle.passes.specs.Rule.{Clash, Sound-at};
+ghost use Rattle.passes.specs.Rule.{says, Clash, First-clash, Sound-at};
 ghost use Rattle.passes.specs.Verdicts.{Wrong-with, True-verdict};
 use crate::model::Pass;
 use crate::model::Station;
@@ -36,24 +37,6 @@ pub enum Verdict {
 }
 
 impl Night {
-    // Its passes, in order of begin.
-    pub fn passes(&self) -> &[Pass]
-        ensures { λ r. ⌜ now r ≡ passes-of (now (self .entry)) ⌝ }
-    {
-        &self.passes[0..self.count]
-    }
-
-    // Turns a room away that isn't a number for each pass.
-    pub fn check_room(&self, room: usize) -> Result<(), Refusal>
-        ensures { λ r. ⌜ errPart r ≡ room-refused (length (passes-of (now (self .entry)))) room ⌝ }
-    {
-        if room == self.passes().len() {
-            Ok(())
-        } else {
-            Err(Refusal::BadRoom(room))
-        }
-    }
-
     // Says whether a plan is good and what it is worth, or the first pass for which it isn't, and why.
     pub fn judge(&self, plan: &[u8]) -> Result<Verdict, Refusal>
         ensures refusal { λ r. ⌜ errPart r ≡ room-refused (length (passes-of (now (self .entry)))) (length (now (plan .entry))) ⌝ }
@@ -83,7 +66,8 @@ pub fn judge(dishes: u64, turn: u64, numbers: &[u32], plan: &[u8]) -> Result<Ver
 fn first_clash(station: Station, passes: &[Pass], plan: &[u8], i: usize) -> Option<usize>
     requires one_each { ⌜ length (now plan) ≡ length (now passes) ⌝ }
     requires within { ⌜ i < length (now passes) ⌝ }
-    ensures { λ r. ⌜ Cases r ((j : ℕ) → Clash station (now (passes .entry)) (now (plan .entry)) i j → ⊥) (λ j. Clash station (now (passes .entry)) (now (plan .entry)) i j × ((k : ℕ) → k < j → Clash station (now (passes .entry)) (now (plan .entry)) i k → ⊥)) ⌝ }
+    requires followed { ⌜ 0 < says (now plan) i ⌝ }
+    ensures { λ r. ⌜ Cases r ((j : ℕ) → Clash station (now (passes .entry)) (now (plan .entry)) i j → ⊥) (First-clash station (now (passes .entry)) (now (plan .entry)) i) ⌝ }
 {
     for j in 0..passes.len() {
         if j != i && plan[i] == plan[j] && !passes[i].one_after(passes[j], station.turn) {
@@ -118,7 +102,7 @@ fn fault_at(station: Station, passes: &[Pass], plan: &[u8], i: usize) -> Option<
 // What the passes that the plan follows are worth together.
 fn worth_of(passes: &[Pass], plan: &[u8]) -> u64
     requires one_each { ⌜ length (now plan) ≡ length (now passes) ⌝ }
-    requires few { ⌜ length (now passes) ≤ 48 ⌝ }
+    requires few { ⌜ length (now passes) ≤ most-passes ⌝ }
     ensures { λ r. ⌜ r ≡ worth-of (now (passes .entry)) (now (plan .entry)) ⌝ }
 {
     let mut worth = 0;

@@ -2,7 +2,7 @@ ghost use Prim.Native.Nat.{_≤_};
 ghost use lib.ListN.{take};
 ghost use mathlib.Core.Path.{_≡_};
 ghost use mathlib.Core.Bool.{true};
-ghost use Rattle.passes.specs.Checks.{checked};
+ghost use Rattle.passes.specs.Checks.{checked, most-passes};
 use crate::model::Pass;
 use crate::model::Station;
 
@@ -14,6 +14,6 @@ pub struct Night {
     pub(crate) station: Station,
     pub(crate) count: usize,
     pub(crate) passes: [Pass; MAX_PASSES],
-    ghost few: { count ≤ 48 },
+    ghost few: { count ≤ most-passes },
     ghost ok: { checked station (take count passes) ≡ true },
 }

@@ -1,11 +1,12 @@
 ghost use mathlib.Core.Path.{_≡_};
 ghost use mathlib.Core.Bool.{true, false};
+ghost use lib.ListN.{length};
 ghost use Rattle.std.specs.Options.{Cases};
 ghost use Rattle.std.specs.Results.{errPart};
 ghost use Rattle.std.specs.Vec.{made};
-ghost use Rattle.passes.specs.Nights.{Night-of, station-of};
+ghost use Rattle.passes.specs.Nights.{Night-of, passes-of, station-of};
 ghost use Rattle.passes.specs.Numbers.{sound, pass-at};
-ghost use Rattle.passes.specs.Refusals.{station-refused, refused};
+ghost use Rattle.passes.specs.Refusals.{station-refused, refused, room-refused};
 use crate::model::Pass;
 use crate::model::Station;
 use crate::nights::MAX_PASSES;
@@ -50,6 +51,24 @@ impl Night {
             count,
             passes,
         })
+    }
+
+    // Its passes, in order of begin.
+    pub fn passes(&self) -> &[Pass]
+        ensures { λ r. ⌜ now r ≡ passes-of (now (self .entry)) ⌝ }
+    {
+        &self.passes[0..self.count]
+    }
+
+    // Turns a room away that isn't a number for each pass.
+    pub fn check_room(&self, room: usize) -> Result<(), Refusal>
+        ensures { λ r. ⌜ errPart r ≡ room-refused (length (passes-of (now (self .entry)))) room ⌝ }
+    {
+        if room == self.passes().len() {
+            Ok(())
+        } else {
+            Err(Refusal::BadRoom(room))
+        }
     }
 }
 

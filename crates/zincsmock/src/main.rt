@@ -5,10 +5,7 @@ use passes::Verdict;
 use passes::judge;
 use std::io;
 
-// Passes by their four numbers: from, to, worth, marks.
-type Passes<'a> = &'a [[u32; 4]];
-
-// Five passes that any dish may follow.
+// Five passes that any dish may follow: from, to, worth, marks.
 const FIVE: [[u32; 4]; 5] = [
     [0, 10, 5, 15],
     [5, 15, 9, 15],
@@ -25,13 +22,10 @@ fn report(
     rt: &LibcRuntime,
     dishes: u64,
     turn: u64,
-    passes: Passes<'_>,
+    passes: &[[u32; 4]],
     plan: &[u8],
 ) -> io::Result<()> {
-    let mut numbers = Vec::new(rt.alloc());
-    for pass in passes {
-        numbers.extend_from_slice(pass)?;
-    }
+    let numbers = passes.concat(rt.alloc())?;
     print!(rt, "dishes {dishes} turn {turn} plan")?;
     for named in plan {
         print!(rt, " {named}")?;
