@@ -1,23 +1,20 @@
 -- Why the test for good plans and the rule for them, pass by pass, say the same. Assumes nothing.
 use mathlib.Core.Path.{_≡_, refl, sym, ap, _∙_}
-use mathlib.Core.Bool.{Bool, true, false, _&&_, _||_, not}
+use mathlib.Core.Bool.{true, false, _||_, not}
 use mathlib.Core.List.{List, [], _∷_}
-use mathlib.Core.Logic.{_⊎_, inl, inr, ⊎-elim}
-use Prim.Native.Nat.{ℕ, zero, suc, _+_, _-_, _≤_, _<_}
+use mathlib.Core.Logic.{⊎-elim}
+use Prim.Native.Nat.{ℕ, zero, suc, _-_, _≤_, _<_}
 use native.Mathlib.Omega.{arith}
-use lib.Dec.{leb, eqb}
+use lib.Dec.{eqb}
 use lib.ListN.{length}
 use Rattle.std.proofs.shelf.Tests.{and-parts, and-from, both-ways, cases-bool, cases-eq, cases-lt, eq-eqb, le-leb, ne-eqb, not-from-false, or-left, or-right}
 use Rattle.std.proofs.shelf.Ways.{tells}
-use Rattle.passes.specs.declared.judging.Fault.{Fault}
-use Rattle.passes.specs.declared.judging.Fault.the-variants.{NoSuchDish, MayNotFollow, TooNear}
 use Rattle.passes.specs.declared.model.Pass.{Pass}
 use Rattle.passes.specs.declared.model.Station.{Station}
 use Rattle.passes.specs.Follow.{may, one-after}
 use Rattle.passes.specs.Plans.{Plan, free-for, fits-one, fits}
 use Rattle.passes.specs.Rule.{nth, says, Clash, Sound-at, Good-plan}
 use Rattle.passes.specs.Statements.{Test-is-rule}
-use Rattle.passes.specs.Verdicts.{Wrong-with}
 
 -- it does not matter which of two passes is named first
 pub one-after-sym : (t : ℕ) (p q : Pass) → one-after t p q ≡ one-after t q p
@@ -132,17 +129,6 @@ fits-from s [] (d ∷ ds) h = absurd (omega (arith, h .one-each))
 fits-from s (p ∷ ps) [] h = absurd (omega (arith, h .one-each))
 fits-from s (p ∷ ps) (d ∷ ds) h =
     and-from _ _ (fits-one-from s p d ps ds (front-fits s p ps d ds h)) (fits-from s ps ds (rest-good s p ps d ds h))
-
--- a pass with which something is wrong is not sound
-wrong-unsound : (s : Station) (ps : List Pass) (ds : Plan) (i : ℕ) (f : Fault) → Wrong-with s ps ds i f → Sound-at s ps ds i → ⊥
-wrong-unsound s ps ds i NoSuchDish w h = omega (arith, h .there)
-wrong-unsound s ps ds i MayNotFollow w h = both-ways _ (w .2) (h .hears (w .0))
-wrong-unsound s ps ds i (TooNear j) w h = h .no-clash j (w .3 .0)
-
--- a plan with which something is wrong is not good
-pub wrong-unfit : (s : Station) (ps : List Pass) (ds : Plan) (i : ℕ) (f : Fault) → i < length ps → Wrong-with s ps ds i f → fits s ps ds ≡ false
-wrong-unfit s ps ds i f l w =
-    ⊎-elim (λ good. absurd (wrong-unsound s ps ds i f w (fits-says s ps ds good .each i l))) (λ bad. bad) (cases-bool (fits s ps ds))
 
 pub test-is-rule : Test-is-rule
 test-is-rule s ps ds = (fits-says s ps ds, fits-from s ps ds)

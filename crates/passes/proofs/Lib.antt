@@ -2,6 +2,7 @@ pub mod Checking
 pub mod Firsts
 pub mod Fours
 pub mod Goodness
+pub mod Judged
 pub mod Marks
 pub mod Taking
 pub mod Touching

@@ -12,7 +12,7 @@ use Rattle.passes.specs.Follow.{may, one-after}
 abbrev pub Plan : Type 0
 Plan = List ℕ
 
--- whoever is called d by a plan can follow the pass p beside those of the passes qs that the plan ds gives it
+-- the dish that plans call d can follow the pass p beside those of the passes qs that the plan ds gives it
 unfoldable pub free-for : Station → Pass → ℕ → List Pass → Plan → Bool
 free-for s p d [] ds = true
 free-for s p d (q ∷ qs) [] = true
@@ -22,7 +22,7 @@ free-for s p d (q ∷ qs) (e ∷ ds) = (not (eqb d e) || one-after (s .turn) p q
 unfoldable pub fits-one : Station → Pass → ℕ → List Pass → Plan → Bool
 fits-one s p d qs ds = eqb d 0 || (leb d (s .dishes) && (may p (d - 1) && free-for s p d qs ds))
 
--- THE RULE: the plan is good. `Good` in specs/Rule.antt says the same pass by pass
+-- THE RULE: the plan is good. `Good-plan` in specs/Rule.antt says the same pass by pass
 unfoldable pub fits : Station → List Pass → Plan → Bool
 fits s [] [] = true
 fits s [] (d ∷ ds) = false

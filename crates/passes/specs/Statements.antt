@@ -6,6 +6,7 @@ use Prim.Native.Nat.{ℕ, _*_, _<_}
 use lib.ListN.{length}
 use Rattle.std.specs.Options.{Cases}
 use Rattle.std.specs.declared.option.Option.the-variants.{None}
+use Rattle.passes.specs.declared.judging.Verdict.{Verdict}
 use Rattle.passes.specs.declared.model.Pass.{Pass}
 use Rattle.passes.specs.declared.model.Station.{Station}
 use Rattle.passes.specs.Checks.{checked}
@@ -14,10 +15,15 @@ use Rattle.passes.specs.Numbers.{passes-in, begun, sound, first-fault}
 use Rattle.passes.specs.Plans.{Plan, fits, worth-of, Best}
 use Rattle.passes.specs.Refusals.{refused}
 use Rattle.passes.specs.Rule.{Good-plan}
+use Rattle.passes.specs.Verdicts.{True-verdict}
 
 -- the test for good plans says what the rule says, pass by pass
 abbrev pub Test-is-rule : Type 0
 Test-is-rule = (s : Station) (ps : List Pass) (ds : Plan) → (fits s ps ds ≡ true → Good-plan s ps ds) × (Good-plan s ps ds → fits s ps ds ≡ true)
+
+-- of each plan one verdict is true
+abbrev pub One-verdict : Type 0
+One-verdict = (s : Station) (ps : List Pass) (ds : Plan) (v w : Verdict) → True-verdict s ps ds v → True-verdict s ps ds w → v ≡ w
 
 -- a list is taken exactly if its numbers come in fours and it and its station pass the checks
 abbrev pub Taken-if-checked : Type 0

@@ -1,9 +1,16 @@
 // Theorems about the definitions, each on the contract of a function.
-ghost use Rattle.passes.specs.Statements.{Test-is-rule, Taken-if-checked, Place-is-first, Touching-passes};
+ghost use Rattle.passes.specs.Statements.{Test-is-rule, One-verdict, Taken-if-checked, Place-is-first, Touching-passes};
 
 // The test for good plans is the rule.
 pub fn rule_stands() -> u8
     ensures { λ _. ⌜ Test-is-rule ⌝ }
+{
+    0
+}
+
+// The judge's contract leaves it no choice.
+pub fn verdict_stands() -> u8
+    ensures { λ _. ⌜ One-verdict ⌝ }
 {
     0
 }

@@ -18,6 +18,7 @@ pub use laws::place_stands;
 pub use laws::rule_stands;
 pub use laws::taken_stands;
 pub use laws::touching_stands;
+pub use laws::verdict_stands;
 pub use model::Pass;
 pub use model::Station;
 pub use nights::Night;

@@ -1,5 +1,4 @@
 use native.Mathlib.Omega.{arith}
-use lib.ListN.{drop}
 use Rattle.std.proofs.shelf.Lists.{drop-all}
 use Rattle.std.proofs.shelf.Ways.{tells}
 use Rattle.passes.specs.Plans.{worth-of}

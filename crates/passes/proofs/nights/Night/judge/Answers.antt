@@ -6,7 +6,8 @@ use Rattle.passes.specs.Plans.{worth-of}
 use Rattle.passes.specs.Rule.{Good-plan}
 use Rattle.passes.specs.Verdicts.{Wrong-with}
 use Rattle.passes.proofs.Checking.{checked-says}
-use Rattle.passes.proofs.Goodness.{fits-from, wrong-unfit}
+use Rattle.passes.proofs.Goodness.{fits-from}
+use Rattle.passes.proofs.Judged.{wrong-unfit}
 use Rattle.passes.proofs.Taking.{room-ok}
 use Rattle.passes.proofs.nights.Night.judge.Needs as need
 

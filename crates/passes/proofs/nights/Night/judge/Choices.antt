@@ -1,5 +1,4 @@
 use Prim.Native.Nat.{ℕ, _<_}
-use lib.ListN.{take}
 use Rattle.passes.specs.Nights.{passes-of}
 use Rattle.passes.specs.Rule.{Sound-at}
 use Rattle.passes.proofs.nights.Night.judge.Given as given

@@ -1,4 +1,4 @@
-use mathlib.Core.Path.{_≡_, refl, sym, ap, subst, _∙_}
+use mathlib.Core.Path.{_≡_, refl, sym, ap, _∙_}
 use mathlib.Core.Bool.{true}
 use mathlib.Core.Logic.{_≢_}
 use Prim.Native.Nat.{ℕ, _<_}
@@ -6,12 +6,9 @@ use native.Mathlib.Omega.{arith}
 use lib.ListN.{length, length-set, take}
 use lib.Seq.{getD-set-same, getD-set-other}
 use borrow.Author.Count.{below-more}
-use Rattle.std.specs.Options.{mapped}
 use Rattle.std.proofs.shelf.Results.{err-from-errBy}
-use Rattle.passes.specs.declared.refusals.Refusal.the-variants.{BadPass}
-use Rattle.passes.specs.Checks.{checked}
 use Rattle.passes.specs.Numbers.{sound, begun, passes-in}
-use Rattle.passes.specs.Refusals.{refused, list-refused, or-else}
+use Rattle.passes.specs.Refusals.{refused, list-refused}
 use Rattle.passes.proofs.Taking.{sound-says, first-at-fault, none-at-fault, list-checked, room-is, fours, station-ok}
 use Rattle.passes.proofs.nights.Night.read.Needs as need
 use Rattle.passes.proofs.nights.Night.read.Needs.{After-loop-i}
