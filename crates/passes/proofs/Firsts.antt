@@ -4,7 +4,7 @@ use mathlib.Core.Bool.{Bool, true, false}
 use mathlib.Core.Logic.{⊎-elim}
 use Prim.Native.Nat.{ℕ, zero, suc, _+_, _≤_, _<_}
 use native.Mathlib.Omega.{arith}
-use Rattle.std.proofs.shelf.Tests.{both-ways, cases-lt, cond-both}
+use Rattle.std.proofs.shelf.Tests.{both-ways, cases-lt, cases-order, cond-both}
 use Rattle.std.specs.declared.option.Option.{Option}
 use Rattle.std.specs.declared.option.Option.the-variants.{Some, None}
 use Rattle.passes.specs.Numbers.{first-failing}
@@ -38,10 +38,6 @@ module _ (ok : ℕ → Bool) where
   one-first i n (Some j) None h g = absurd (both-ways (ok j) (h .2) (g j (h .0) (h .1)))
   one-first i n (Some j) (Some k) h g =
       ⊎-elim
-      (λ before. absurd (both-ways (ok j) (h .2) (g .3 j (h .0) before)))
-      (λ rest.
-      ⊎-elim
-      (λ after. absurd (both-ways (ok k) (g .2) (h .3 k (g .0) after)))
-      (λ none. ap Some (omega arith))
-      (cases-lt k j))
-      (cases-lt j k)
+      (λ same. ap Some same)
+      (λ other. ⊎-elim (λ before. absurd (both-ways (ok j) (h .2) (g .3 j (h .0) before))) (λ after. absurd (both-ways (ok k) (g .2) (h .3 k (g .0) after))) other)
+      (cases-order j k)

@@ -23,6 +23,7 @@ turning-ok t = leb t 100000
 unfoldable pub in-range : Pass → Bool
 in-range p = ltb (p .from) (p .to) && (leb (p .to) 1000000 && (leb (p .worth) 1000000 && leb (p .marks) 15))
 
+-- each pass of a list is
 unfoldable pub all-in-range : List Pass → Bool
 all-in-range [] = true
 all-in-range (p ∷ ps) = in-range p && all-in-range ps
