@@ -6,7 +6,7 @@ use lib.Dec.{leb, ltb}
 use Rattle.passes.specs.declared.model.Pass.{Pass}
 
 -- a pass holds a dish from its beginning to its end, and for the t seconds of turning after it
-unfoldable pub holds : ℕ → Pass → ℕ → Bool
+abbrev pub holds : ℕ → Pass → ℕ → Bool
 holds t p x = leb (p .from) x && ltb x (p .to + t)
 
 -- how many passes of a list hold a dish in the second x

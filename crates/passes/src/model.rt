@@ -1,4 +1,5 @@
 ghost use mathlib.Core.Path.{_≡_};
+ghost use Rattle.passes.specs.Busy.{holds};
 ghost use Rattle.passes.specs.Follow.{may, one-after};
 
 // A satellite's pass over the station: from the second `from` up to but not with the second `to`.
@@ -33,5 +34,12 @@ impl Pass {
     {
         let turn = turn as u64;
         self.to as u64 + turn <= other.from as u64 || other.to as u64 + turn <= self.from as u64
+    }
+
+    // Whether it holds a dish in this second: from its begin up to its end, and for the `turn` seconds of turning after it.
+    pub fn holds_dish_at(self, second: u32, turn: u32) -> bool
+        ensures { λ r. ⌜ r ≡ holds turn self second ⌝ }
+    {
+        self.from <= second && (second as u64) < self.to as u64 + turn as u64
     }
 }

@@ -53,6 +53,13 @@ impl Night {
         })
     }
 
+    // Its dishes, and how long they take to turn.
+    pub fn station(&self) -> Station
+        ensures { λ r. ⌜ r ≡ now (self .entry) .station ⌝ }
+    {
+        self.station
+    }
+
     // Its passes, in order of begin.
     pub fn passes(&self) -> &[Pass]
         ensures { λ r. ⌜ now r ≡ passes-of (now (self .entry)) ⌝ }

@@ -1,0 +1,10 @@
+pub mod Begins
+pub mod Chains
+pub mod Crowd
+pub mod Everyone
+pub mod Followed
+pub mod Giving
+pub mod Greedy
+pub mod Singles
+pub mod Tables
+pub mod Timing

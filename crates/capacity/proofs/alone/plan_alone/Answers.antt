@@ -1,0 +1,37 @@
+use mathlib.Core.Path.{refl, ap, _∙_}
+use native.Mathlib.Omega.{arith}
+use lib.ListN.{length}
+use Rattle.std.proofs.shelf.Lists.{length-map}
+use Rattle.capacity.proofs.Singles.{planned-alone, worths-fit}
+use Rattle.capacity.proofs.Tables.{one-most}
+use Rattle.capacity.proofs.Timing.{in-time-from-checked}
+use Rattle.capacity.proofs.alone.plan_alone.Needs as need
+
+pub fill-table-requires : need.fill-table-requires
+fill-table-requires c κs =
+    let a = c .args in
+    record {
+      in-time = in-time-from-checked (a .station) (a .passes .now) (c .pre .taken);
+      a-gain-each = ap length (c .pre .the-worths) ∙ length-map (a .passes .now) (λ p. p .worth);
+      sum-fits = rw (c .pre .the-worths) (worths-fit (a .station) (a .passes .now) (c .pre .taken));
+      one-more = c .pre .one-more;
+    }
+
+pub follow-table-requires : need.follow-table-requires
+follow-table-requires c κs =
+    let a = c .args in
+    record {
+      in-time = in-time-from-checked (a .station) (a .passes .now) (c .pre .taken);
+      a-gain-each = ap length (c .pre .the-worths) ∙ length-map (a .passes .now) (λ p. p .worth);
+      one-more = omega (arith, c .pre .one-more);
+      filled = c .fill-table .ensures;
+      one-each = c .pre .one-each;
+      a-byte = omega arith;
+    }
+
+pub returns : need.returns
+returns c =
+    let a = c .args in
+    let best = c .follow-table .ensures in
+    let entry = one-most (a .station) 0 (a .passes .now) (a .gains .now) _ _ (c .follow-table .last .room, best, refl) (c .fill-table .ensures 0 (omega arith) (omega arith)) in
+    planned-alone (a .station) (c .pre .one-dish) (a .passes .now) (c .follow-table .last .room) _ (rw (c .pre .the-worths) at best) (rw (c .pre .the-worths) at entry)
