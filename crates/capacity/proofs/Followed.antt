@@ -14,7 +14,7 @@ use Rattle.passes.specs.Rule.{nth}
 use Rattle.capacity.specs.Alone.{gain-of, only, Best-alone, Right-from}
 use Rattle.capacity.specs.Order.{In-time, First-from}
 use Rattle.capacity.proofs.Chains.{Alone, able, gain-none}
-use Rattle.capacity.proofs.Tables.{one-most, entry-past, entry-falls, entry-unable, entry-able, skip-at, skip-gain, gap, follow-at, follow-gain, up-to}
+use Rattle.capacity.proofs.Tables.{one-most, entry-past, entry-falls, entry-unable, entry-able, skip-at, skip-gain, follow-at, follow-gain, up-to, comes-later}
 
 module _ (s : Station) (d : ℕ) (ps : List Pass) (gs table : List ℕ) where
   -- whatever plan of the dish goes on from pass i makes, behind the front, a plan of all passes, and gains there what the table says
@@ -68,9 +68,9 @@ module _ (s : Station) (d : ℕ) (ps : List Pass) (gs table : List ℕ) where
         let later = right next (omega arith) (first .within) in
         ⊎-elim
         (λ can.
-        let is = one-most s d _ _ _ _ this (entry-able s d ps gs timed long i next within first can _ _ rest later) in
-        let on = l _ (follow-at s d ps gs timed long i next within first can qs h) in
-        rw (append-assoc front (suc d ∷ replicate (next - (i + 1)) 0) qs) (on .0, omega (arith, on .1, follow-gain s d ps gs timed long i next within first qs)))
+        let is = one-most s d _ _ _ _ this (entry-able s ps timed i next within first d gs long can _ _ rest later) in
+        let on = l _ (follow-at s ps timed i next within first d gs long can qs h) in
+        rw (append-assoc front (suc d ∷ replicate (next - (i + 1)) 0) qs) (on .0, omega (arith, on .1, follow-gain s ps timed i next within first d gs long qs)))
         (λ cannot.
         let is = one-most s d _ _ _ _ this (entry-unable s d ps gs long i within cannot _ rest) in
         absurd (omega arith))
@@ -82,10 +82,10 @@ module _ (s : Station) (d : ℕ) (ps : List Pass) (gs table : List ℕ) where
         let none : next - (i + 1) ≡ 0 = omega arith in
         leads-at _ _ _ _ (sym (ap (λ xs. xs ++ replicate (next - (i + 1)) 0) (take-more-set room i 0 l) ∙ ap (λ n. (take i room ++ (0 ∷ [])) ++ replicate n 0) none ∙ append-nil _)) (omega arith) (leads-skip (take i room) level (led-turned next i room turned h))
 
-    pub led-follow : (next after : ℕ) (room : Plan) → First-from ps (nth ps i .to + s .turn) after → i < after → i < length room → next ≤ i → getD table (i + 1) 0 < getD table i 0 → Led next i room → Led after (i + 1) (set room i (suc d))
+    pub led-follow : (next after : ℕ) (room : Plan) → First-from ps (nth ps i .to + s .turn) after → i < length room → next ≤ i → getD table (i + 1) 0 < getD table i 0 → Led next i room → Led after (i + 1) (set room i (suc d))
     unfolding Led
-    led-follow next after room first later l turned more h =
-        leads-at _ _ _ _ (sym (ap (λ xs. xs ++ replicate (after - (i + 1)) 0) (take-more-set room i (suc d) l) ∙ append-assoc (take i room) (suc d ∷ []) (replicate (after - (i + 1)) 0))) (sym (up-to i after later)) (leads-follow after first (take i room) more (led-turned next i room turned h))
+    led-follow next after room first l turned more h =
+        leads-at _ _ _ _ (sym (ap (λ xs. xs ++ replicate (after - (i + 1)) 0) (take-more-set room i (suc d) l) ∙ append-assoc (take i room) (suc d ∷ []) (replicate (after - (i + 1)) 0))) (sym (up-to i after (comes-later s ps timed i after within first))) (leads-follow after first (take i room) more (led-turned next i room turned h))
 
   -- at the end the room holds a best plan
   pub led-best : length gs ≡ length ps → Right-from 0 s d ps gs table → (next : ℕ) (room : Plan) → length room ≡ length ps → next ≤ length ps → Led next (length ps) room → Best-alone s d ps gs room

@@ -21,9 +21,12 @@ use Rattle.capacity.specs.Alone.{gain-of, only, Best-alone, Gains-most, Right-
 use Rattle.capacity.specs.Order.{In-time, First-from}
 use Rattle.capacity.proofs.Chains.{fits-drop, gain-other, gain-followed, gain-idle, gain-bound, Alone, able, alone-skip, alone-follow}
 
--- from one place to a later one
+-- from one place to a later one, and the list from there
 pub up-to : (i next : ℕ) → i < next → i + 1 + (next - (i + 1)) ≡ next
 up-to i next later = omega arith
+
+drop-up-to : {X : Type 0} (xs : List X) (i next : ℕ) → i < next → drop (next - (i + 1)) (drop (i + 1) xs) ≡ drop next xs
+drop-up-to xs i next later = drop-drop (next - (i + 1)) (i + 1) xs ∙ ap (λ n. drop n xs) (up-to i next later)
 
 module _ (s : Station) (d : ℕ) where
   -- a best plan of the dish gains one number only
@@ -101,13 +104,12 @@ module _ (s : Station) (d : ℕ) where
 pub sum-later : (gs : List ℕ) (i next : ℕ) → i < length gs → i < next → getD gs i 0 + sum (drop next gs) ≤ sum gs
 sum-later gs i next l later =
     let own : ℕ → ℕ = λ x. x in
-    let joined = drop-drop (next - (i + 1)) (i + 1) gs ∙ ap (λ n. drop n gs) (up-to i next later) in
     omega (
       arith,
       sumBy-take-drop own gs i,
       sumBy-drop-more own gs i 0 l,
       sumBy-take-drop own (drop (i + 1) gs) (next - (i + 1)),
-      ap sum joined,
+      ap sum (drop-up-to gs i next later),
     )
 
 module _ (s : Station) (d : ℕ) (ps : List Pass) (gs : List ℕ) (long : length gs ≡ length ps) where
@@ -145,49 +147,45 @@ module _ (s : Station) (d : ℕ) (ps : List Pass) (gs : List ℕ) (long : length
       let in-gains : i < length gs = omega arith in
       rw (drop-more ps i no-pass within, drop-more gs i 0 in-gains) (gains-unable s d (nth ps i) (drop (i + 1) ps) (getD gs i 0) (drop (i + 1) gs) b rest cannot)
 
-module _ (s : Station) (d : ℕ) (ps : List Pass) (gs : List ℕ) (timed : In-time ps) (long : length gs ≡ length ps) (i next : ℕ) (within : i < length ps) (first : First-from ps (nth ps i .to + s .turn) next) where
-  -- the next pass that can be followed comes later
+-- next is the first pass that begins late enough after pass i for one dish to follow both
+module _ (s : Station) (ps : List Pass) (timed : In-time ps) (i next : ℕ) (within : i < length ps) (first : First-from ps (nth ps i .to + s .turn) next) where
   pub comes-later : i < next
   comes-later = ⊎-elim (λ later. later) (λ not. absurd (omega (arith, first .after i not within, timed .ends i within))) (cases-lt i next)
 
   -- how many passes lie between
-  abbrev pub gap : ℕ
+  abbrev gap : ℕ
   gap = next - (i + 1)
 
-  joined : i + 1 + gap ≡ next
-  joined = up-to i next comes-later
-
   gap-within : gap ≤ length (drop (i + 1) ps)
-  gap-within = omega (arith, length-drop (i + 1) ps, joined, first .within)
+  gap-within = omega (arith, length-drop (i + 1) ps, comes-later, first .within)
 
+  -- the passes behind them can be followed after pass i
   far : (j : ℕ) → gap ≤ j → j < length (drop (i + 1) ps) → nth ps i .to + s .turn ≤ nth (drop (i + 1) ps) j .from
-  far j l h = rw (getD-drop (i + 1) ps j no-pass) (first .after (i + 1 + j) (omega (arith, joined)) (omega (arith, length-drop (i + 1) ps)))
+  far j l h = rw (getD-drop (i + 1) ps j no-pass) (first .after (i + 1 + j) (omega (arith, comes-later)) (omega (arith, length-drop (i + 1) ps)))
 
+  -- and they cannot
   near : (j : ℕ) → j < gap → one-after (s .turn) (nth ps i) (nth (drop (i + 1) ps) j) ≡ false
   near j l =
-      let short = first .before (i + 1 + j) (omega (arith, joined)) in
-      let after = timed .order i (i + 1 + j) (omega arith) (omega (arith, joined, first .within)) in
-      let ends = timed .ends (i + 1 + j) (omega (arith, joined, first .within)) in
+      let short = first .before (i + 1 + j) (omega (arith, comes-later)) in
+      let after = timed .order i (i + 1 + j) (omega arith) (omega (arith, comes-later, first .within)) in
+      let ends = timed .ends (i + 1 + j) (omega (arith, comes-later, first .within)) in
       rw (getD-drop (i + 1) ps j no-pass) (grind (arith, tells))
 
-  rest-passes : drop gap (drop (i + 1) ps) ≡ drop next ps
-  rest-passes = drop-drop gap (i + 1) ps ∙ ap (λ n. drop n ps) joined
+  module _ (d : ℕ) (gs : List ℕ) (long : length gs ≡ length ps) where
+    this-gain : drop i gs ≡ getD gs i 0 ∷ drop (i + 1) gs
+    this-gain = drop-more gs i 0 (omega arith)
 
-  rest-gains : drop gap (drop (i + 1) gs) ≡ drop next gs
-  rest-gains = drop-drop gap (i + 1) gs ∙ ap (λ n. drop n gs) joined
+    -- an entry from the next one and from that of the first pass that still goes after this one, where the dish is able to follow the pass
+    pub entry-able : able s d (nth ps i) ≡ true → (b c : ℕ) → Gains-most s d (drop (i + 1) ps) (drop (i + 1) gs) b → Gains-most s d (drop next ps) (drop next gs) c → Gains-most s d (drop i ps) (drop i gs) (max b (getD gs i 0 + c))
+    entry-able can b c rest later =
+        rw (drop-more ps i no-pass within, this-gain)
+        (gains-able s d (nth ps i) (drop (i + 1) ps) (getD gs i 0) (drop (i + 1) gs) b rest gap gap-within c (rw (drop-up-to ps i next comes-later, drop-up-to gs i next comes-later) later) can far near)
 
-  this-gain : drop i gs ≡ getD gs i 0 ∷ drop (i + 1) gs
-  this-gain = drop-more gs i 0 (omega arith)
+    -- the plan that follows this pass and goes on with one from there, and what it gains
+    pub follow-at : able s d (nth ps i) ≡ true → (qs : Plan) → Alone s d (drop next ps) qs → Alone s d (drop i ps) (suc d ∷ (replicate gap 0 ++ qs))
+    follow-at can qs h = rw (drop-more ps i no-pass within) (alone-follow s d (nth ps i) (drop (i + 1) ps) gap gap-within can far qs (rw (drop-up-to ps i next comes-later) h))
 
-  -- an entry from the next one and from that of the first pass that still goes after this one, where the dish is able to follow the pass
-  pub entry-able : able s d (nth ps i) ≡ true → (b c : ℕ) → Gains-most s d (drop (i + 1) ps) (drop (i + 1) gs) b → Gains-most s d (drop next ps) (drop next gs) c → Gains-most s d (drop i ps) (drop i gs) (max b (getD gs i 0 + c))
-  entry-able can b c rest later =
-      rw (drop-more ps i no-pass within, this-gain)
-      (gains-able s d (nth ps i) (drop (i + 1) ps) (getD gs i 0) (drop (i + 1) gs) b rest gap gap-within c (rw (rest-passes, rest-gains) later) can far near)
-
-  -- the plan that follows this pass and goes on with one from there, and what it gains
-  pub follow-at : able s d (nth ps i) ≡ true → (qs : Plan) → Alone s d (drop next ps) qs → Alone s d (drop i ps) (suc d ∷ (replicate gap 0 ++ qs))
-  follow-at can qs h = rw (drop-more ps i no-pass within) (alone-follow s d (nth ps i) (drop (i + 1) ps) gap gap-within can far qs (rw rest-passes h))
-
-  pub follow-gain : (qs : Plan) → gain-of d (drop i gs) (suc d ∷ (replicate gap 0 ++ qs)) ≡ getD gs i 0 + gain-of d (drop next gs) qs
-  follow-gain qs = rw this-gain (gain-followed d (getD gs i 0) (drop (i + 1) gs) (replicate gap 0 ++ qs) ∙ ap (λ n. getD gs i 0 + n) (gain-idle d gap (drop (i + 1) gs) qs ∙ ap (λ l. gain-of d l qs) rest-gains))
+    pub follow-gain : (qs : Plan) → gain-of d (drop i gs) (suc d ∷ (replicate gap 0 ++ qs)) ≡ getD gs i 0 + gain-of d (drop next gs) qs
+    follow-gain qs =
+        let rest = gain-idle d gap (drop (i + 1) gs) qs ∙ ap (λ l. gain-of d l qs) (drop-up-to gs i next comes-later) in
+        rw this-gain (gain-followed d (getD gs i 0) (drop (i + 1) gs) (replicate gap 0 ++ qs) ∙ ap (λ n. getD gs i 0 + n) rest)

@@ -1,5 +1,12 @@
-// Judges the example plans and prints what is said of each.
+// Judges the example plans, and says of the example lists which second is busiest, what one dish alone can follow, and whether all passes can be
+// followed.
+use capacity::Assignment;
+use capacity::Peak;
+use capacity::assign_all;
+use capacity::busiest;
+use capacity::plan_one_dish;
 use passes::Fault;
+use passes::Night;
 use passes::Refusal;
 use passes::Verdict;
 use passes::judge;
@@ -27,14 +34,19 @@ fn report(
 ) -> io::Result<()> {
     let numbers = passes.concat(rt.alloc())?;
     print!(rt, "dishes {dishes} turn {turn} plan")?;
-    for named in plan {
-        print!(rt, " {named}")?;
-    }
+    print_plan(rt, plan)?;
     match judge(dishes, turn, numbers.as_slice(), plan) {
         Ok(Verdict::Good(worth)) => println!(rt, ": good, worth {worth}"),
         Ok(Verdict::Bad(pass, fault)) => report_fault(rt, pass, fault),
         Err(refusal) => report_refusal(rt, refusal),
     }
+}
+
+fn print_plan(rt: &LibcRuntime, plan: &[u8]) -> io::Result<()> {
+    for named in plan {
+        print!(rt, " {named}")?;
+    }
+    Ok(())
 }
 
 fn report_fault(rt: &LibcRuntime, pass: usize, fault: Fault) -> io::Result<()> {
@@ -51,6 +63,49 @@ fn report_refusal(rt: &LibcRuntime, refusal: Refusal) -> io::Result<()> {
     println!(rt, ": turned away, number {number} at {place}")
 }
 
+// Prints a best plan for one dish, and what it is worth.
+fn report_one_dish(rt: &LibcRuntime, turn: u64, passes: &[[u32; 4]]) -> io::Result<()> {
+    let numbers = passes.concat(rt.alloc())?;
+    let mut room = vec![in rt.alloc(); 0; passes.len()]?;
+    print!(rt, "dishes 1 turn {turn}")?;
+    match plan_one_dish(turn, numbers.as_slice(), room.as_mut_slice()) {
+        Ok(worth) => {
+            print!(rt, ": worth {worth} by plan")?;
+            print_plan(rt, room.as_slice())?;
+            println!(rt)
+        }
+        Err(refusal) => report_refusal(rt, refusal),
+    }
+}
+
+// Prints the busiest second of a list, and a plan that follows all its passes or why there is none.
+fn report_capacity(
+    rt: &LibcRuntime,
+    dishes: u64,
+    turn: u64,
+    passes: &[[u32; 4]],
+) -> io::Result<()> {
+    let numbers = passes.concat(rt.alloc())?;
+    let mut room = vec![in rt.alloc(); 0; passes.len()]?;
+    print!(rt, "dishes {dishes} turn {turn}")?;
+    let night = match Night::read(dishes, turn, numbers.as_slice()) {
+        Ok(night) => night,
+        Err(refusal) => return report_refusal(rt, refusal),
+    };
+    let Peak { second, count } = busiest(night.passes(), night.station().turn);
+    print!(rt, ": busiest second {second} with {count} passes")?;
+    match assign_all(&night, room.as_mut_slice()) {
+        Ok(Assignment::AllFollowed) => {
+            print!(rt, ", all followed by plan")?;
+            print_plan(rt, room.as_slice())?;
+            println!(rt)
+        }
+        Ok(Assignment::TooMany(second)) => println!(rt, ", too many in second {second}"),
+        Ok(Assignment::NotOpen(pass)) => println!(rt, ", not every dish may follow pass {pass}"),
+        Err(refusal) => report_refusal(rt, refusal),
+    }
+}
+
 fn main(rt: LibcRuntime) -> io::Result<()> {
     report(&rt, 1, 0, &FIVE, &[1, 0, 1, 0, 1])?;
     report(&rt, 1, 3, &FIVE, &[0, 1, 0, 0, 1])?;
@@ -61,5 +116,10 @@ fn main(rt: LibcRuntime) -> io::Result<()> {
     report(&rt, 1, 3, &FIVE, &[1, 0, 1, 0, 1])?;
     report(&rt, 1, 0, &MARKED, &[0, 1, 2])?;
     report(&rt, 5, 0, &FIVE, &[1, 0, 1, 0, 1])?;
-    report(&rt, 1, 0, &FIVE, &[1, 0, 1])
+    report(&rt, 1, 0, &FIVE, &[1, 0, 1])?;
+    report_one_dish(&rt, 0, &FIVE)?;
+    report_one_dish(&rt, 3, &FIVE)?;
+    report_capacity(&rt, 2, 0, &FIVE)?;
+    report_capacity(&rt, 2, 3, &FIVE)?;
+    report_capacity(&rt, 2, 0, &MARKED)
 }

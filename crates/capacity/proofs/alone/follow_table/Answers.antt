@@ -3,7 +3,6 @@ use Prim.Native.Nat.{suc, _+_}
 use native.Mathlib.Numerals.{add-one}
 use native.Mathlib.Omega.{arith}
 use lib.ListN.{length}
-use Rattle.capacity.proofs.Tables.{comes-later}
 use Rattle.capacity.proofs.Followed.{led-start, led-held, led-skip, led-follow, led-best}
 use Rattle.capacity.proofs.alone.follow_table.Needs as need
 use Rattle.capacity.proofs.alone.follow_table.Needs.{then-next-i·then-table-i, else-next-i, else-next-i·by·then-next-i·else-table-i, else-next-i·by·else-next-i}
@@ -21,9 +20,8 @@ loop-i-again c =
     elim (c .if-next-i .came) [
       | then-next-i·then-table-i w ↦
           let first = w .first-from-next .ensures in
-          let later = comes-later (a .station) (a .dish) (a .passes .now) (a .gains .now) (c .pre .in-time) (c .pre .a-gain-each) (l .i) (w .first-from-next .result) (c .loop-i-test .taken) first in
           rw (w .room-is, w .next-is, add-one (a .dish))
-          (first .within, led-follow (a .station) (a .dish) (a .passes .now) (a .gains .now) (a .table .now) (c .pre .in-time) (c .pre .a-gain-each) (c .pre .filled) (l .i) (c .loop-i-test .taken) (l .next) (w .first-from-next .result) (l .room) first later (omega arith) (w .if-next-i .taken) (w .if-table-i .taken) inv)
+          (first .within, led-follow (a .station) (a .dish) (a .passes .now) (a .gains .now) (a .table .now) (c .pre .in-time) (c .pre .a-gain-each) (c .pre .filled) (l .i) (c .loop-i-test .taken) (l .next) (w .first-from-next .result) (l .room) first (omega arith) (w .if-next-i .taken) (w .if-table-i .taken) inv)
       | else-next-i w ↦
           rw (w .room-is, w .next-is) (
             l .inv .0,

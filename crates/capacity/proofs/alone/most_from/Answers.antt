@@ -23,7 +23,7 @@ returns-then-dish-station c =
 pub add-gains : need.add-gains
 add-gains c =
     let a = c .args in
-    let later = comes-later (a .station) (a .dish) (a .passes .now) (a .gains .now) (c .pre .in-time) (c .pre .a-gain-each) (a .i) (c .first-from-next .result) (c .pre .within) (c .first-from-next .ensures) in
+    let later = comes-later (a .station) (a .passes .now) (c .pre .in-time) (a .i) (c .first-from-next .result) (c .pre .within) (c .first-from-next .ensures) in
     let entry = c .pre .filled (c .first-from-next .result) (omega arith) (c .first-from-next .ensures .within) in
     let most = gain-le-sum (a .dish) (drop (c .first-from-next .result) (a .gains .now)) (entry .0) in
     omega (arith, entry .2, sum-later (a .gains .now) (a .i) (c .first-from-next .result) (omega (arith, c .pre .within)) later)
@@ -32,8 +32,8 @@ pub returns : need.returns
 returns c =
     let a = c .args in
     let can = and-from _ _ (lt-ltb _ _ (c .if-dish-station .left)) (sym (c .may-be-followed-by .ensures) ∙ c .if-not-may-be-followed-by .left) in
-    let later = comes-later (a .station) (a .dish) (a .passes .now) (a .gains .now) (c .pre .in-time) (c .pre .a-gain-each) (a .i) (c .first-from-next .result) (c .pre .within) (c .first-from-next .ensures) in
+    let later = comes-later (a .station) (a .passes .now) (c .pre .in-time) (a .i) (c .first-from-next .result) (c .pre .within) (c .first-from-next .ensures) in
     rw (c .max .ensures)
-    (entry-able (a .station) (a .dish) (a .passes .now) (a .gains .now) (c .pre .in-time) (c .pre .a-gain-each) (a .i) (c .first-from-next .result) (c .pre .within) (c .first-from-next .ensures) can _ _
+    (entry-able (a .station) (a .passes .now) (c .pre .in-time) (a .i) (c .first-from-next .result) (c .pre .within) (c .first-from-next .ensures) (a .dish) (a .gains .now) (c .pre .a-gain-each) can _ _
     (c .pre .filled (a .i + 1) (omega arith) (omega (arith, c .pre .within)))
     (c .pre .filled (c .first-from-next .result) (omega arith) (c .first-from-next .ensures .within)))

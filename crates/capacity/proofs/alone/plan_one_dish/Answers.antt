@@ -5,8 +5,10 @@ use native.Mathlib.Omega.{arith}
 use lib.ListN.{length}
 use Rattle.std.proofs.shelf.Lists.{length-take}
 use Rattle.std.proofs.shelf.Results.{err-from-errBy}
-use Rattle.std.specs.declared.option.Option.the-variants.{None}
+use Rattle.std.specs.declared.option.Option.{Option}
+use Rattle.std.specs.declared.option.Option.the-variants.{Some, None}
 use Rattle.passes.specs.declared.nights.Night.{Night}
+use Rattle.passes.specs.declared.refusals.Refusal.{Refusal}
 use Rattle.passes.specs.Nights.{passes-of, station-of, Night-of}
 use Rattle.passes.specs.Numbers.{passes-in}
 use Rattle.passes.specs.Refusals.{refused, refused-with-room, room-refused, or-else}
@@ -15,11 +17,11 @@ use Rattle.passes.proofs.Taking.{room-ok}
 use Rattle.capacity.specs.Alone.{Planned}
 use Rattle.capacity.proofs.alone.plan_one_dish.Needs as need
 
--- once a night is read, what may be refused is the room
-room-left : (k t : ℕ) (xs : List ℕ) (n : Night) (room : ℕ) → None ≡ refused k t xs → Night-of k t xs n → room-refused (length (passes-of n)) room ≡ refused-with-room k t xs room
+-- once a night is read, what is refused is the room, if anything
+room-refusal : (k t : ℕ) (xs : List ℕ) (n : Night) (room : ℕ) (o : Option Refusal) → None ≡ refused k t xs → Night-of k t xs n → o ≡ room-refused (length (passes-of n)) room → o ≡ refused-with-room k t xs room
 unfolding refused-with-room
-room-left k t xs n room taken night =
-    ap (λ ps. room-refused (length ps) room) (night .same-passes) ∙ ap (λ o. or-else o (room-refused (length (passes-in xs)) room)) taken
+room-refusal k t xs n room o taken night told =
+    told ∙ ap (λ ps. room-refused (length ps) room) (night .same-passes) ∙ ap (λ p. or-else p (room-refused (length (passes-in xs)) room)) taken
 
 pub returns-in-Break-night : need.returns-in-Break-night
 unfolding refused-with-room
@@ -33,8 +35,8 @@ pub returns-in-Break-check-room : need.returns-in-Break-check-room
 returns-in-Break-check-room c =
     let p = err-from-errBy (c .from-residual-in-Break-check-room .result) (c .from-residual-in-Break-check-room .ensures .1) in
     let told = c .in-Continue-night .ensures tt in
-    let left = room-left 1 (c .args .turn) (c .args .numbers .now) (c .in-Continue-night .night) (length (c .args .room .now)) (told .refusal) (told .night) in
-    record { refusal = rw (p .1, p .2) (c .in-Break-check-room .ensures tt ∙ left); planned = rw (p .1) refl }
+    let refused-room = room-refusal 1 (c .args .turn) (c .args .numbers .now) (c .in-Continue-night .night) (length (c .args .room .now)) (Some (c .in-Break-check-room .field-0 .0)) (told .refusal) (told .night) (c .in-Break-check-room .ensures tt) in
+    record { refusal = rw (p .1, p .2) refused-room; planned = rw (p .1) refl }
 
 pub plan-alone-requires : need.plan-alone-requires
 plan-alone-requires c κs =
@@ -54,11 +56,10 @@ plan-alone-requires c κs =
 pub returns : need.returns
 returns c =
     let told = c .in-Continue-night .ensures tt in
-    let left = room-left 1 (c .args .turn) (c .args .numbers .now) (c .in-Continue-night .night) (length (c .args .room .now)) (told .refusal) (told .night) in
     let station = c .station .ensures ∙ told .night .same-station in
     let passes = c .passes-passes .ensures ∙ told .night .same-passes in
     let planned = subst (λ s. Planned s (c .passes-passes .result .now) (c .plan-alone .last .room) (c .plan-alone .result)) station (c .plan-alone .ensures) in
     record {
-      refusal = c .in-Continue-check-room .ensures tt ∙ left;
+      refusal = room-refusal 1 (c .args .turn) (c .args .numbers .now) (c .in-Continue-night .night) (length (c .args .room .now)) None (told .refusal) (told .night) (c .in-Continue-check-room .ensures tt);
       planned = subst (λ ps. Planned (station-of 1 (c .args .turn)) ps (c .plan-alone .last .room) (c .plan-alone .result)) passes planned;
     }
