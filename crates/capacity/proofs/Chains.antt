@@ -1,24 +1,24 @@
 -- Plans of one dish: what a front that it leaves out, and a pass that it follows first, come to. Assumes nothing.
 use mathlib.Core.Path.{_≡_, refl, sym, ap, _∙_}
-use mathlib.Core.Bool.{Bool, true, false, cond, _&&_}
+use mathlib.Core.Bool.{Bool, true, false, _&&_}
 use mathlib.Core.List.{List, [], _∷_, _++_}
 use mathlib.Core.Logic.{_≢_, ⊎-elim}
-use Prim.Native.Nat.{ℕ, zero, suc, max, _+_, _-_, _≤_, _<_}
+use Prim.Native.Nat.{ℕ, zero, suc, _+_, _-_, _≤_, _<_}
 use native.Mathlib.Omega.{arith}
-use lib.Dec.{eqb, ltb}
-use lib.ListN.{length, getD, drop, replicate}
+use lib.Dec.{ltb}
+use lib.ListN.{length, drop, replicate}
 use Rattle.std.specs.shelf.Lists.{sum}
-use Rattle.std.proofs.shelf.Lists.{length-append, length-drop, length-replicate, getD-append-left, getD-append-right, getD-replicate}
+use Rattle.std.proofs.shelf.Lists.{length-append, length-drop, length-replicate, getD-append-left, getD-replicate}
 use Rattle.std.proofs.shelf.Sums.{sumBy-cons}
-use Rattle.std.proofs.shelf.Tests.{and-from, and-parts, both-ways, cases-bool, cases-eq, cases-lt, eq-eqb, ne-eqb, le-leb, lt-ltb, ltb-true, or-right}
+use Rattle.std.proofs.shelf.Tests.{and-from, and-parts, both-ways, cases-lt, eq-eqb, ne-eqb, ltb-true, or-right}
 use Rattle.std.proofs.shelf.Ways.{tells}
 use Rattle.passes.specs.declared.model.Pass.{Pass}
 use Rattle.passes.specs.declared.model.Station.{Station}
 use Rattle.passes.specs.Follow.{may, one-after}
-use Rattle.passes.specs.Plans.{Plan, free-for, fits-one, fits}
+use Rattle.passes.specs.Plans.{Plan, fits-one, fits}
 use Rattle.passes.specs.Rule.{nth, says}
 use Rattle.passes.proofs.Goodness.{free-from, free-says, fits-one-says, fits-one-from, fits-says}
-use Rattle.capacity.specs.Alone.{gain-of, only, Best-alone, Gains-most}
+use Rattle.capacity.specs.Alone.{gain-of, only}
 
 -- what is left of a good plan is good for what is left of the list
 pub fits-drop : (s : Station) (k : ℕ) (ps : List Pass) (ds : Plan) → fits s ps ds ≡ true → fits s (drop k ps) (drop k ds) ≡ true

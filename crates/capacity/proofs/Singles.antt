@@ -1,21 +1,20 @@
 -- A station with one dish: a best plan of that dish alone is a best plan. Assumes nothing.
-use mathlib.Core.Path.{_≡_, refl, sym, ap, _∙_}
-use mathlib.Core.Bool.{true, false, cond}
-use mathlib.Core.List.{List, [], _∷_, map}
-use mathlib.Core.Logic.{⊎-elim}
-use Prim.Native.Nat.{ℕ, suc, _+_, _*_, _^_, _≤_, _<_}
+use mathlib.Core.Path.{_≡_, refl, sym, _∙_}
+use mathlib.Core.Bool.{true}
+use mathlib.Core.List.{List, [], _∷_}
+use Prim.Native.Nat.{ℕ, _*_, _^_, _≤_, _<_}
 use native.Mathlib.Omega.{arith}
 use lib.ListN.{length}
 use Rattle.std.specs.shelf.Lists.{sum}
 use Rattle.std.proofs.shelf.Sums.{sumBy-cons}
-use Rattle.std.proofs.shelf.Tests.{and-parts, both-ways}
+use Rattle.std.proofs.shelf.Tests.{and-parts}
 use Rattle.std.proofs.shelf.Ways.{tells}
 use Rattle.passes.specs.declared.model.Pass.{Pass}
 use Rattle.passes.specs.declared.model.Station.{Station}
 use Rattle.passes.specs.Checks.{in-range, all-in-range, checked}
 use Rattle.passes.specs.Plans.{Plan, fits-one, fits, worth-of, Best}
 use Rattle.passes.proofs.Goodness.{fits-one-says}
-use Rattle.capacity.specs.Alone.{gain-of, worths, Best-alone, Planned, Gains-most}
+use Rattle.capacity.specs.Alone.{gain-of, worths, Best-alone, Planned}
 
 -- what a good plan of a station with one dish is worth, that dish gains
 worth-gained : (s : Station) → s .dishes ≡ 1 → (ps : List Pass) (ds : Plan) → fits s ps ds ≡ true → worth-of ps ds ≡ gain-of 0 (worths ps) ds

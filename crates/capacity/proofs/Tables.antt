@@ -9,7 +9,7 @@ use lib.ListN.{length, getD, set, drop, replicate}
 use Rattle.std.specs.shelf.Lists.{sum}
 use Rattle.std.proofs.shelf.Lists.{drop-all, drop-drop, drop-more, getD-drop, getD-set-other, getD-set-same, length-drop}
 use Rattle.std.proofs.shelf.Sums.{sumBy-drop-more, sumBy-take-drop}
-use Rattle.std.proofs.shelf.Tests.{and-from, and-parts, both-ways, cases-bool, cases-eq, cases-lt, lt-ltb}
+use Rattle.std.proofs.shelf.Tests.{and-from, and-parts, both-ways, cases-eq, cases-lt, lt-ltb}
 use Rattle.std.proofs.shelf.Ways.{tells}
 use Rattle.passes.specs.declared.model.Pass.{Pass}
 use Rattle.passes.specs.declared.model.Station.{Station}
@@ -17,7 +17,7 @@ use Rattle.passes.specs.Follow.{one-after}
 use Rattle.passes.specs.Plans.{Plan, fits-one, fits}
 use Rattle.passes.specs.Rule.{no-pass, nth}
 use Rattle.passes.proofs.Goodness.{Fits-one, fits-one-says}
-use Rattle.capacity.specs.Alone.{gain-of, only, Best-alone, Gains-most, Right-from}
+use Rattle.capacity.specs.Alone.{gain-of, only, Gains-most, Right-from}
 use Rattle.capacity.specs.Order.{In-time, First-from}
 use Rattle.capacity.proofs.Chains.{fits-drop, gain-other, gain-followed, gain-idle, gain-bound, Alone, able, alone-skip, alone-follow}
 
