@@ -16,6 +16,10 @@ use Rattle.capacity.specs.Order.{In-time, First-from}
 use Rattle.capacity.proofs.Chains.{Alone, able, gain-none}
 use Rattle.capacity.proofs.Tables.{one-most, entry-past, entry-falls, entry-unable, entry-able, skip-at, skip-gain, follow-at, follow-gain, up-to, comes-later}
 
+-- the front of a room, one number on
+front-more : (room : Plan) (i e k : ℕ) → i < length room → take (i + 1) (set room i e) ++ replicate k 0 ≡ take i room ++ (e ∷ replicate k 0)
+front-more room i e k l = ap (λ xs. xs ++ replicate k 0) (take-more-set room i e l) ∙ append-assoc (take i room) (e ∷ []) (replicate k 0)
+
 module _ (s : Station) (d : ℕ) (ps : List Pass) (gs table : List ℕ) where
   -- whatever plan of the dish goes on from pass i makes, behind the front, a plan of all passes, and gains there what the table says
   pub Leads : Plan → ℕ → Type 0
@@ -42,13 +46,9 @@ module _ (s : Station) (d : ℕ) (ps : List Pass) (gs table : List ℕ) where
   -- a pass more that is not followed, while the dish is still held
   pub led-held : (next i : ℕ) (room : Plan) → i < length room → i < next → Led next i room → Led next (i + 1) (set room i 0)
   unfolding Led
-  led-held next i room l held h = leads-at _ _ _ _ (sym front) (omega arith) h
-    where
-      one-less : suc (next - (i + 1)) ≡ next - i
-      one-less = omega arith
-
-      front : take (i + 1) (set room i 0) ++ replicate (next - (i + 1)) 0 ≡ take i room ++ replicate (next - i) 0
-      front = ap (λ xs. xs ++ replicate (next - (i + 1)) 0) (take-more-set room i 0 l) ∙ append-assoc (take i room) (0 ∷ []) (replicate (next - (i + 1)) 0) ∙ ap (λ n. take i room ++ replicate n 0) one-less
+  led-held next i room l held h =
+      let one-less : suc (next - (i + 1)) ≡ next - i = omega arith in
+      leads-at _ _ _ _ (sym (front-more room i 0 (next - (i + 1)) l ∙ ap (λ n. take i room ++ replicate n 0) one-less)) (omega arith) h
 
   module _ (timed : In-time ps) (long : length gs ≡ length ps) (right : Right-from 0 s d ps gs table) (i : ℕ) (within : i < length ps) where
     -- a pass that there is nothing to gain by is left out
@@ -76,16 +76,18 @@ module _ (s : Station) (d : ℕ) (ps : List Pass) (gs table : List ℕ) where
         absurd (omega arith))
         (cases-bool (able s d (nth ps i)))
 
+    -- the same of the room
     pub led-skip : (next : ℕ) (room : Plan) → i < length room → next ≤ i → getD table i 0 ≤ getD table (i + 1) 0 → Led next i room → Led next (i + 1) (set room i 0)
     unfolding Led
     led-skip next room l turned level h =
         let none : next - (i + 1) ≡ 0 = omega arith in
-        leads-at _ _ _ _ (sym (ap (λ xs. xs ++ replicate (next - (i + 1)) 0) (take-more-set room i 0 l) ∙ ap (λ n. (take i room ++ (0 ∷ [])) ++ replicate n 0) none ∙ append-nil _)) (omega arith) (leads-skip (take i room) level (led-turned next i room turned h))
+        leads-at _ _ _ _ (sym (front-more room i 0 (next - (i + 1)) l ∙ ap (λ n. take i room ++ (0 ∷ replicate n 0)) none)) (omega arith) (leads-skip (take i room) level (led-turned next i room turned h))
 
     pub led-follow : (next after : ℕ) (room : Plan) → First-from ps (nth ps i .to + s .turn) after → i < length room → next ≤ i → getD table (i + 1) 0 < getD table i 0 → Led next i room → Led after (i + 1) (set room i (suc d))
     unfolding Led
     led-follow next after room first l turned more h =
-        leads-at _ _ _ _ (sym (ap (λ xs. xs ++ replicate (after - (i + 1)) 0) (take-more-set room i (suc d) l) ∙ append-assoc (take i room) (suc d ∷ []) (replicate (after - (i + 1)) 0))) (sym (up-to i after (comes-later s ps timed i after within first))) (leads-follow after first (take i room) more (led-turned next i room turned h))
+        let later = comes-later s ps timed i after within first in
+        leads-at _ _ _ _ (sym (front-more room i (suc d) (after - (i + 1)) l)) (sym (up-to i after later)) (leads-follow after first (take i room) more (led-turned next i room turned h))
 
   -- at the end the room holds a best plan
   pub led-best : length gs ≡ length ps → Right-from 0 s d ps gs table → (next : ℕ) (room : Plan) → length room ≡ length ps → next ≤ length ps → Led next (length ps) room → Best-alone s d ps gs room

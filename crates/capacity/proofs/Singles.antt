@@ -1,11 +1,12 @@
 -- A station with one dish: a best plan of that dish alone is a best plan. Assumes nothing.
-use mathlib.Core.Path.{_≡_, refl, sym, _∙_}
+use mathlib.Core.Path.{_≡_, refl, sym, ap, _∙_}
 use mathlib.Core.Bool.{true}
 use mathlib.Core.List.{List, [], _∷_}
 use Prim.Native.Nat.{ℕ, _*_, _^_, _≤_, _<_}
 use native.Mathlib.Omega.{arith}
 use lib.ListN.{length}
 use Rattle.std.specs.shelf.Lists.{sum}
+use Rattle.std.proofs.shelf.Lists.{length-map}
 use Rattle.std.proofs.shelf.Sums.{sumBy-cons}
 use Rattle.std.proofs.shelf.Tests.{and-parts}
 use Rattle.std.proofs.shelf.Ways.{tells}
@@ -33,6 +34,10 @@ planned-alone s one ps ds w h gain = record {
   best = (h .good, λ es good. let most = h .most es good in omega (arith, worth-gained s one ps es good, worth-gained s one ps ds (h .good)));
   worth = sym gain ∙ sym (worth-gained s one ps ds (h .good));
 }
+
+-- there is a worth for each pass
+pub worth-each : (ps : List Pass) (gs : List ℕ) → gs ≡ worths ps → length gs ≡ length ps
+worth-each ps gs e = ap length e ∙ length-map ps (λ p. p .worth)
 
 -- what passes that were checked are worth together
 worths-small : (ps : List Pass) → all-in-range ps ≡ true → sum (worths ps) ≤ length ps * 1000000

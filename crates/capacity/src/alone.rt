@@ -1,7 +1,8 @@
 // One dish alone: a table of the most that it can gain from each pass on, and the plan that follows from it.
 ghost use mathlib.Core.Path.{_≡_};
 ghost use mathlib.Core.Bool.{true};
-ghost use Prim.Native.Nat.{_+_, _^_, _≤_, _<_};
+ghost use mathlib.Core.List.{List};
+ghost use Prim.Native.Nat.{ℕ, _+_, _^_, _≤_, _<_};
 ghost use lib.ListN.{length, take, drop};
 ghost use Rattle.std.specs.Results.{Cases, errPart};
 ghost use Rattle.std.specs.shelf.Lists.{sum};
@@ -56,7 +57,7 @@ fn plan_alone(
     ensures { λ r. ⌜ Planned station (now (passes .entry)) (now (room .exit)) r ⌝ }
 {
     fill_table(station, 0, passes, gains, table);
-    follow_table(station, 0, passes, gains, table, room);
+    follow_table(station, 0, passes, table, room);
     table[0]
 }
 
@@ -131,22 +132,13 @@ fn most_from(
     left_out.max(gains[i] + table[next])
 }
 
-// Leaves the best plan of the dish alone in the room that its table stands for: it follows each pass that it can gain by.
-pub fn follow_table(
-    station: Station,
-    dish: u8,
-    passes: &[Pass],
-    gains: &[u64],
-    table: &[u64],
-    room: &mut [u8],
-)
+// Leaves a best plan of the dish alone in the room, for whatever gains the table has the most of: it follows each pass that it can gain by.
+pub fn follow_table(station: Station, dish: u8, passes: &[Pass], table: &[u64], room: &mut [u8])
     requires in_time { ⌜ In-time (now passes) ⌝ }
-    requires a_gain_each { ⌜ length (now gains) ≡ length (now passes) ⌝ }
     requires one_more { ⌜ length (now table) ≡ length (now passes) + 1 ⌝ }
-    requires filled { ⌜ Right-from 0 station dish (now passes) (now gains) (now table) ⌝ }
     requires one_each { ⌜ length (now room) ≡ length (now passes) ⌝ }
     requires a_byte { ⌜ dish < 255 ⌝ }
-    ensures { λ _. ⌜ Best-alone station dish (now (passes .entry)) (now (gains .entry)) (now (room .exit)) ⌝ }
+    ensures { λ _. ⌜ ((gs : List ℕ) → length gs ≡ length (now (passes .entry)) → Right-from 0 station dish (now (passes .entry)) gs (now (table .entry)) → Best-alone station dish (now (passes .entry)) gs (now (room .exit))) ⌝ }
 {
     let mut next = 0;
     for i in 0..passes.len() {

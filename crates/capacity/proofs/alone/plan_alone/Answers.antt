@@ -1,8 +1,6 @@
-use mathlib.Core.Path.{refl, ap, _∙_}
+use mathlib.Core.Path.{refl}
 use native.Mathlib.Omega.{arith}
-use lib.ListN.{length}
-use Rattle.std.proofs.shelf.Lists.{length-map}
-use Rattle.capacity.proofs.Singles.{planned-alone, worths-fit}
+use Rattle.capacity.proofs.Singles.{planned-alone, worth-each, worths-fit}
 use Rattle.capacity.proofs.Tables.{one-most}
 use Rattle.capacity.proofs.Timing.{in-time-from-checked}
 use Rattle.capacity.proofs.alone.plan_alone.Needs as need
@@ -12,7 +10,7 @@ fill-table-requires c κs =
     let a = c .args in
     record {
       in-time = in-time-from-checked (a .station) (a .passes .now) (c .pre .taken);
-      a-gain-each = ap length (c .pre .the-worths) ∙ length-map (a .passes .now) (λ p. p .worth);
+      a-gain-each = worth-each (a .passes .now) (a .gains .now) (c .pre .the-worths);
       sum-fits = rw (c .pre .the-worths) (worths-fit (a .station) (a .passes .now) (c .pre .taken));
       one-more = c .pre .one-more;
     }
@@ -22,9 +20,7 @@ follow-table-requires c κs =
     let a = c .args in
     record {
       in-time = in-time-from-checked (a .station) (a .passes .now) (c .pre .taken);
-      a-gain-each = ap length (c .pre .the-worths) ∙ length-map (a .passes .now) (λ p. p .worth);
       one-more = omega (arith, c .pre .one-more);
-      filled = c .fill-table .ensures;
       one-each = c .pre .one-each;
       a-byte = omega arith;
     }
@@ -32,6 +28,7 @@ follow-table-requires c κs =
 pub returns : need.returns
 returns c =
     let a = c .args in
-    let best = c .follow-table .ensures in
-    let entry = one-most (a .station) 0 (a .passes .now) (a .gains .now) _ _ (c .follow-table .last .room, best, refl) (c .fill-table .ensures 0 (omega arith) (omega arith)) in
+    let filled = c .fill-table .ensures in
+    let best = c .follow-table .ensures (a .gains .now) (worth-each (a .passes .now) (a .gains .now) (c .pre .the-worths)) filled in
+    let entry = one-most (a .station) 0 (a .passes .now) (a .gains .now) _ _ (c .follow-table .last .room, best, refl) (filled 0 (omega arith) (omega arith)) in
     planned-alone (a .station) (c .pre .one-dish) (a .passes .now) (c .follow-table .last .room) _ (rw (c .pre .the-worths) at best) (rw (c .pre .the-worths) at entry)
