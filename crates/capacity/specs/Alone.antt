@@ -30,7 +30,7 @@ pub record Best-alone (s : Station) (d : ℕ) (ps : List Pass) (gs : List ℕ) (
 abbrev pub Gains-most : Station → ℕ → List Pass → List ℕ → ℕ → Type 0
 Gains-most s d ps gs n = (ds : Plan) × Best-alone s d ps gs ds × (gain-of d gs ds ≡ n)
 
--- each entry of the table from i on is what a best plan of dish d alone gains from its pass on: there is one more than there are passes
+-- from entry i on, entry k of the table is what a best plan of dish d alone gains from pass k on; the last one stands behind all passes
 abbrev pub Right-from : ℕ → Station → ℕ → List Pass → (gs table : List ℕ) → Type 0
 Right-from i s d ps gs table = (k : ℕ) → i ≤ k → k ≤ length ps → Gains-most s d (drop k ps) (drop k gs) (getD table k 0)
 

@@ -21,6 +21,7 @@ pub use laws::all_followed_stands;
 mod tests {
     use super::*;
     use passes::Night;
+    use passes::Pass;
     use passes::Refusal;
     use passes::RefusalDebug;
     use passes::RefusalPartialEq;
@@ -82,6 +83,28 @@ mod tests {
             check_eq(found, Ok(Peak { second, count }))?;
         }
         Ok(())
+    }
+
+    // A pass that dish 0 may follow.
+    fn pass(from: u32, to: u32) -> Pass {
+        Pass {
+            from,
+            to,
+            worth: 1,
+            marks: 1,
+        }
+    }
+
+    #[test]
+    fn busiest_in_any_order() -> Result<(), Fail> {
+        let passes = [pass(20, 30), pass(5, 10), pass(22, 24), pass(7, 9)];
+        check_eq(
+            busiest(&passes, 0),
+            Peak {
+                second: 7,
+                count: 2,
+            },
+        )
     }
 
     // The plan of one dish for five passes, and what it is worth.
