@@ -29,6 +29,10 @@ drop-up-to : {X : Type 0} (xs : List X) (i next : ℕ) → i < next → drop (ne
 drop-up-to xs i next later = drop-drop (next - (i + 1)) (i + 1) xs ∙ ap (λ n. drop n xs) (up-to i next later)
 
 module _ (s : Station) (d : ℕ) where
+  -- a plan that gains the most is one of the dish alone
+  alone-of : (ps : List Pass) (gs : List ℕ) (n : ℕ) (h : Gains-most s d ps gs n) → Alone s d ps (h .0)
+  alone-of ps gs n h = record { good = h .1 .good; alone = h .1 .alone }
+
   -- a best plan of the dish gains one number only
   pub one-most : (ps : List Pass) (gs : List ℕ) (n m : ℕ) → Gains-most s d ps gs n → Gains-most s d ps gs m → n ≡ m
   one-most ps gs n m h g =
@@ -53,7 +57,7 @@ module _ (s : Station) (d : ℕ) where
 
     -- the plan that leaves p out, and what it gains
     skips : Alone s d (p ∷ ps) (0 ∷ rest .0)
-    skips = alone-skip s d p ps (rest .0) (record { good = rest .1 .good; alone = rest .1 .alone })
+    skips = alone-skip s d p ps (rest .0) (alone-of ps gs b rest)
 
     skips-gain : gain-of d (g ∷ gs) (0 ∷ rest .0) ≡ b
     skips-gain = gain-other d g gs 0 (rest .0) (λ e. omega arith) ∙ rest .2
@@ -77,7 +81,7 @@ module _ (s : Station) (d : ℕ) where
     -- one that is able either leaves it out, or follows it and goes on at m, the first pass that it can follow then
     module _ (m : ℕ) (within : m ≤ length ps) (c : ℕ) (later : Gains-most s d (drop m ps) (drop m gs) c) where
       follows : able s d p ≡ true → ((j : ℕ) → m ≤ j → j < length ps → p .to + s .turn ≤ nth ps j .from) → Alone s d (p ∷ ps) (suc d ∷ (replicate m 0 ++ later .0))
-      follows can far = alone-follow s d p ps m within can far (later .0) (record { good = later .1 .good; alone = later .1 .alone })
+      follows can far = alone-follow s d p ps m within can far (later .0) (alone-of (drop m ps) (drop m gs) c later)
 
       follows-gain : gain-of d (g ∷ gs) (suc d ∷ (replicate m 0 ++ later .0)) ≡ g + c
       follows-gain = gain-followed d g gs (replicate m 0 ++ later .0) ∙ ap (λ n. g + n) (gain-idle d m gs (later .0) ∙ later .2)

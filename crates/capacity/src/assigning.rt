@@ -12,13 +12,12 @@ ghost use Rattle.passes.specs.Refusals.{room-refused};
 ghost use Rattle.passes.specs.Rule.{says};
 ghost use Rattle.capacity.specs.Assignments.{Assigned, Open, All-open, First-closed, Follows-all, First-overfull, None-free, First-free};
 ghost use Rattle.capacity.specs.Order.{In-time};
+use passes::MAX_DISHES;
 use passes::MAX_PASSES;
 use passes::Night;
 use passes::Pass;
 use passes::Refusal;
 use passes::Station;
-
-const MAX_DISHES: usize = 4;
 
 // What came of giving a dish to every pass.
 #[derive(Clone, Copy, Debug, PartialEq)]

@@ -194,6 +194,12 @@ mod tests {
             assign_all(&Night::read(1, 0, &[])?, &mut []),
             Ok(Assignment::AllFollowed),
         )?;
+        let mut room = [9; 1];
+        check_eq(
+            assign_all(&Night::read(1, 0, &[7, 9, 4, 1])?, &mut room),
+            Ok(Assignment::AllFollowed),
+        )?;
+        check_eq(room, [1])?;
         let mut room = [9; 48];
         check_eq(
             assign_all(&Night::read(4, 0, &equal())?, &mut room),

@@ -14,12 +14,13 @@ use Rattle.std.specs.declared.option.Option.{Option}
 use Rattle.std.specs.declared.option.Option.the-variants.{Some, None}
 use Rattle.passes.specs.declared.model.Pass.{Pass}
 use Rattle.passes.specs.declared.model.Station.{Station}
+use Rattle.passes.specs.declared.nights.Night.{Night}
 use Rattle.passes.specs.declared.refusals.Refusal.{Refusal}
 use Rattle.passes.specs.declared.refusals.Refusal.the-variants.{BadPass}
 use Rattle.passes.specs.Checks.{in-range, checked, dishes-ok, turning-ok}
 use Rattle.passes.specs.Numbers.{passes-in, pass-at, begun, in-order, sound, first-fault}
-use Rattle.passes.specs.Nights.{station-of}
-use Rattle.passes.specs.Refusals.{or-else, station-refused, list-refused, room-refused, refused}
+use Rattle.passes.specs.Nights.{station-of, passes-of, Night-of}
+use Rattle.passes.specs.Refusals.{or-else, station-refused, list-refused, room-refused, refused, refused-with-room}
 use Rattle.passes.specs.Rule.{no-pass, nth}
 use Rattle.passes.specs.Statements.{Place-is-first, Taken-if-checked}
 use Rattle.passes.proofs.Checking.{checked-says, checked-from}
@@ -107,6 +108,17 @@ station-ok k t h = grind (arith, tells)
 pub room-ok : (n room : ℕ) → room-refused n room ≡ None → room ≡ n
 unfolding room-refused
 room-ok n room h = grind (arith, tells)
+
+-- what is refused without a room is refused with any
+pub refused-anyway : (k t : ℕ) (xs : List ℕ) (room : ℕ) (r : Refusal) → Some r ≡ refused k t xs → Some r ≡ refused-with-room k t xs room
+unfolding refused-with-room
+refused-anyway k t xs room r told = ap (λ o. or-else o (room-refused (length (passes-in xs)) room)) told
+
+-- once a night is read, what is refused is the room, if anything
+pub room-refusal : (k t : ℕ) (xs : List ℕ) (n : Night) (room : ℕ) (o : Option Refusal) → None ≡ refused k t xs → Night-of k t xs n → o ≡ room-refused (length (passes-of n)) room → o ≡ refused-with-room k t xs room
+unfolding refused-with-room
+room-refusal k t xs n room o taken night told =
+    told ∙ ap (λ ps. room-refused (length ps) room) (night .same-passes) ∙ ap (λ p. or-else p (room-refused (length (passes-in xs)) room)) taken
 
 pub place-is-first : Place-is-first
 unfolding first-fault

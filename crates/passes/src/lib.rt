@@ -21,6 +21,7 @@ pub use laws::touching_stands;
 pub use laws::verdict_stands;
 pub use model::Pass;
 pub use model::Station;
+pub use nights::MAX_DISHES;
 pub use nights::MAX_PASSES;
 pub use nights::Night;
 pub use refusals::Refusal;

@@ -8,6 +8,8 @@ use crate::model::Station;
 
 pub const MAX_PASSES: usize = 48;
 
+pub const MAX_DISHES: usize = 4;
+
 // A station and a list of passes that were taken.
 #[derive(Clone, Copy)]
 pub struct Night {

@@ -9,11 +9,10 @@ ghost use Rattle.passes.specs.Numbers.{sound, pass-at};
 ghost use Rattle.passes.specs.Refusals.{station-refused, refused, room-refused};
 use crate::model::Pass;
 use crate::model::Station;
+use crate::nights::MAX_DISHES;
 use crate::nights::MAX_PASSES;
 use crate::nights::Night;
 use crate::refusals::Refusal;
-
-const MAX_DISHES: u64 = 4;
 
 const MAX_TURN: u64 = 100_000;
 
@@ -83,7 +82,7 @@ fn read_station(dishes: u64, turn: u64) -> Result<Station, Refusal>
     ensures refusal { λ r. ⌜ errPart r ≡ station-refused dishes turn ⌝ }
     ensures station { λ r. ⌜ made r (λ s. s ≡ station-of dishes turn) ⌝ }
 {
-    if dishes < 1 || dishes > MAX_DISHES {
+    if dishes < 1 || dishes > MAX_DISHES as u64 {
         return Err(Refusal::BadDishes);
     }
     if turn > MAX_TURN {

@@ -1,34 +1,20 @@
 use mathlib.Core.Path.{_≡_, refl, sym, ap, subst, _∙_}
-use mathlib.Core.List.{List}
-use Prim.Native.Nat.{ℕ, _-_, _≤_}
+use Prim.Native.Nat.{_-_, _≤_}
 use native.Mathlib.Omega.{arith}
 use lib.ListN.{length}
 use Rattle.std.proofs.shelf.Lists.{length-take}
 use Rattle.std.proofs.shelf.Results.{err-from-errBy}
-use Rattle.std.specs.declared.option.Option.{Option}
 use Rattle.std.specs.declared.option.Option.the-variants.{Some, None}
-use Rattle.passes.specs.declared.nights.Night.{Night}
-use Rattle.passes.specs.declared.refusals.Refusal.{Refusal}
-use Rattle.passes.specs.Nights.{passes-of, station-of, Night-of}
-use Rattle.passes.specs.Numbers.{passes-in}
-use Rattle.passes.specs.Refusals.{refused, refused-with-room, room-refused, or-else}
+use Rattle.passes.specs.Nights.{passes-of, station-of}
 use Rattle.passes.proofs.Checking.{checked-says}
-use Rattle.passes.proofs.Taking.{room-ok}
+use Rattle.passes.proofs.Taking.{room-ok, refused-anyway, room-refusal}
 use Rattle.capacity.specs.Alone.{Planned}
 use Rattle.capacity.proofs.alone.plan_one_dish.Needs as need
 
--- once a night is read, what is refused is the room, if anything
-room-refusal : (k t : ℕ) (xs : List ℕ) (n : Night) (room : ℕ) (o : Option Refusal) → None ≡ refused k t xs → Night-of k t xs n → o ≡ room-refused (length (passes-of n)) room → o ≡ refused-with-room k t xs room
-unfolding refused-with-room
-room-refusal k t xs n room o taken night told =
-    told ∙ ap (λ ps. room-refused (length ps) room) (night .same-passes) ∙ ap (λ p. or-else p (room-refused (length (passes-in xs)) room)) taken
-
 pub returns-in-Break-night : need.returns-in-Break-night
-unfolding refused-with-room
 returns-in-Break-night c =
     let p = err-from-errBy (c .from-residual .result) (c .from-residual .ensures .1) in
-    let room = room-refused (length (passes-in (c .args .numbers .now))) (length (c .args .room .now)) in
-    let turned-away = ap (λ o. or-else o room) (c .in-Break-night .ensures tt .refusal) in
+    let turned-away = refused-anyway 1 (c .args .turn) (c .args .numbers .now) (length (c .args .room .now)) (c .in-Break-night .field-0 .0) (c .in-Break-night .ensures tt .refusal) in
     record { refusal = rw (p .1, p .2) turned-away; planned = rw (p .1) refl }
 
 pub returns-in-Break-check-room : need.returns-in-Break-check-room
