@@ -1,4 +1,6 @@
 // How many passes hold a dish at once, a best plan for one dish alone, and dishes given to passes that all of them may follow.
+#![tactic(auto)]
+
 mod alone;
 mod assigning;
 mod counting;

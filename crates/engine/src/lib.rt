@@ -1,4 +1,6 @@
 // The best run of any sequence of decisions.
+#![tactic(auto)]
+
 mod gains;
 mod problem;
 mod searching;

@@ -1,5 +1,7 @@
 // Passes of satellites over a station with dishes: which inputs are turned away and where, and whether a plan of who follows what is
 // good, and what it is worth.
+#![tactic(auto)]
+
 mod judging;
 mod laws;
 mod model;

@@ -1,4 +1,6 @@
 // A best plan for a night.
+#![tactic(auto)]
+
 mod laws;
 mod planning;
 mod scheduling;

@@ -1,5 +1,7 @@
 // Judges the example plans, and says of the example lists which second is busiest, what one dish alone can follow, and whether all passes can be
 // followed.
+#![tactic(auto)]
+
 use capacity::{Assignment, Peak, assign_all, busiest, plan_one_dish};
 use passes::{Fault, Night, Refusal, Verdict, judge};
 use std::io;
