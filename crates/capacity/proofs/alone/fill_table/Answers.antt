@@ -11,4 +11,4 @@ loop-i-init c =
 pub loop-i-preserved : goal.loop-i-preserved
 loop-i-preserved c =
     let a = c.args in
-    right_more a.station a.dish a.passes.now a.gains.now c.requires.a_gain_each c.loop-i.table (c.loop-i.i - 1) c.most-from-most.result (omega (arith, length-set a.table.now (length a.passes.now) 0)) (λ k l m. c.loop-i.invariant k (omega arith) m) c.most-from-most.ensures
+    right_more a.station a.dish a.passes.now a.gains.now c.requires.a_gain_each c.loop-i.table (c.loop-i.i - 1) c.most_from-most.result (omega (arith, length-set a.table.now (length a.passes.now) 0)) (λ k l m. c.loop-i.invariant k (omega arith) m) c.most_from-most.ensures

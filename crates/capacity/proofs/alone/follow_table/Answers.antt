@@ -15,9 +15,9 @@ loop-i-preserved c =
     let within = c.loop-i-test.true in
     elim c.if-next-i.branch [
       | then-next-i+then-table-i w ↦
-          let first = w.first-from-next.ensures in
+          let first = w.first_from-next.ensures in
           rw (w.room_is, w.next-is, add-one a.dish)
-          (first.within, λ gs long right. led_follow a.station a.dish a.passes.now gs a.table.now c.requires.in_time long right l.i within l.next w.first-from-next.result l.room first (omega arith) w.if-next-i.true w.if-table-i.true (l.invariant.1 gs long right))
+          (first.within, λ gs long right. led_follow a.station a.dish a.passes.now gs a.table.now c.requires.in_time long right l.i within l.next w.first_from-next.result l.room first (omega arith) w.if-next-i.true w.if-table-i.true (l.invariant.1 gs long right))
       | else-next-i w ↦
           rw (w.room_is, w.next-is) (
             l.invariant.0,

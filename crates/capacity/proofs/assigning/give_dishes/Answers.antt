@@ -7,8 +7,8 @@ use Rattle.capacity.proofs.assigning.give_dishes.Goals as goal
 pub loop-i-init : goal.loop-i-init
 loop-i-init c = (refl, none_given _ _ _ _ c.requires.one_each c.requires.empty (all_zero 4))
 
-pub slice-bounds-first-free-end : goal.slice-bounds-first-free-end
-slice-bounds-first-free-end c = omega arith
+pub slice_bounds-first_free-end : goal.slice_bounds-first_free-end
+slice_bounds-first_free-end c = omega arith
 
 pub returns-in-None : goal.returns-in-None
 returns-in-None c =

@@ -3,8 +3,8 @@ use Rattle.engine.proofs.Ways.{fine_came, came_all, came_more, came_front, front
 use Rattle.engine.proofs.Trying.{improved_none, improved_more, fine_best, tried_none, tried_refused, tried_more, tried_all}
 use Rattle.engine.proofs.searching.+explore.Goals as goal
 
-pub keep-better-requires : goal.keep-better-requires
-keep-better-requires g t c =
+pub keep_better-requires : goal.keep_better-requires
+keep_better-requires g t c =
     let m = g.P.Problem.model c.args.problem.now in
     record {
       laws = c.requires.laws;
@@ -13,8 +13,8 @@ keep-better-requires g t c =
       holds = c.requires.holds;
     }
 
-pub can-stop-requires : goal.can-stop-requires
-can-stop-requires g t c =
+pub can_stop-requires : goal.can_stop-requires
+can_stop-requires g t c =
     let m = g.P.Problem.model c.args.problem.now in
     record {
       within = omega (arith, c.requires.came.within, c.stages.ensures, c.if-stage-stages.false);
@@ -63,7 +63,7 @@ loop-choice-preserved g t c =
     let m = g.P.Problem.model c.args.problem.now in
     let a = c.args in
     let l = c.loop-choice in
-    (l.invariant.0, tried_refused m a.stage a.state l.choice l.best (sym c.step.ensures ∙ c.in-default.is) l.invariant.1, l.invariant.2)
+    (l.invariant.0, tried_refused m a.stage a.state l.choice l.best (sym c.step.ensures ∙ c.in_default.is) l.invariant.1, l.invariant.2)
 
 pub returns : goal.returns
 returns g t c =

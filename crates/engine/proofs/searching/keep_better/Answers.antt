@@ -3,23 +3,23 @@ use Rattle.engine.specs.Searching.{beats}
 use Rattle.engine.proofs.Ways.{fine_run}
 use Rattle.engine.proofs.Trying.{improved_none, improved_by, unbeaten_end}
 use Rattle.engine.proofs.searching.keep_better.Goals as goal
-use Rattle.engine.proofs.searching.keep_better.Goals.{in-Some+else-not-is-ahead, in-default}
+use Rattle.engine.proofs.searching.keep_better.Goals.{in-Some+else-not-is_ahead, in_default}
 
-pub is-ahead-requires : goal.is-ahead-requires
-is-ahead-requires g c =
+pub is_ahead-requires : goal.is_ahead-requires
+is_ahead-requires g c =
     let m = g.P.Problem.model c.args.problem.now in
     record {
       fine = fine_run m.moves c.requires.laws.moves c.args.made.now c.args.state c.requires.run;
       other_fine = fine_run m.moves c.requires.laws.moves c.args.room.now c.in-Some.best (rw c.in-Some.is at c.requires.holds);
     }
 
-pub returns-then-not-is-ahead : goal.returns-then-not-is-ahead
-returns-then-not-is-ahead g c =
+pub returns-then-not-is_ahead : goal.returns-then-not-is_ahead
+returns-then-not-is_ahead g c =
     let m = g.P.Problem.model c.args.problem.now in
     let room = c.args.room.now in
     record {
       improved = rw c.in-Some.is (improved_none m (Some c.in-Some.best) room (rw c.in-Some.is at c.requires.holds));
-      unbeaten = unbeaten_end m c.args.state (Some c.in-Some.best) (sym c.if-not-is-ahead.ensures);
+      unbeaten = unbeaten_end m c.args.state (Some c.in-Some.best) (sym c.if-not-is_ahead.ensures);
     }
 
 pub returns : goal.returns
@@ -27,10 +27,10 @@ returns g c =
     let m = g.P.Problem.model c.args.problem.now in
     let state = c.args.state in
     let ahead : beats m state c.args.best ≡ true = elim c.match-best.branch [
-      | in-Some+else-not-is-ahead w ↦ rw w.in-Some.is (sym w.if-not-is-ahead.ensures)
-      | in-default w ↦ rw w.in-default.is refl
+      | in-Some+else-not-is_ahead w ↦ rw w.in-Some.is (sym w.if-not-is_ahead.ensures)
+      | in_default w ↦ rw w.in_default.is refl
     ] in
     record {
-      improved = improved_by m c.requires.laws c.args.best state c.args.room.now c.copy-from-slice.new.self ahead (rw c.copy-from-slice.ensures.after c.requires.run);
+      improved = improved_by m c.requires.laws c.args.best state c.args.room.now c.copy_from_slice.new.self ahead (rw c.copy_from_slice.ensures.after c.requires.run);
       unbeaten = unbeaten_end m state (Some state) (c.requires.laws.not_itself state);
     }

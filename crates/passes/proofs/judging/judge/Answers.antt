@@ -6,16 +6,16 @@ use Rattle.passes.specs.Verdicts.{TrueVerdict}
 use Rattle.passes.proofs.Taking.{refused_anyway, room_refusal}
 use Rattle.passes.proofs.judging.judge.Goals as goal
 
-pub returns-in-err-night : goal.returns-in-err-night
-returns-in-err-night c =
-    let p = err_from_is_err_and c.from-residual.result c.from-residual.ensures.1 in
-    let turned_away = refused_anyway c.args.dishes c.args.turn c.args.numbers.now (length c.args.plan.now) c.in-err-night.field-0.0 c.in-err-night.ensures.refusal in
+pub returns-in_err-night : goal.returns-in_err-night
+returns-in_err-night c =
+    let p = err_from_is_err_and c.from_residual.result c.from_residual.ensures.1 in
+    let turned_away = refused_anyway c.args.dishes c.args.turn c.args.numbers.now (length c.args.plan.now) c.in_err-night.field-0.0 c.in_err-night.ensures.refusal in
     record { refusal = rw (p.1, p.2) turned_away; verdict = rw p.1 tt }
 
 pub returns : goal.returns
 returns c =
-    let told = c.in-ok-night.ensures in
-    let night = c.in-ok-night.night in
+    let told = c.in_ok-night.ensures in
+    let night = c.in_ok-night.night in
     let plan = c.args.plan.now in
     let night_verdict = subst (λ ps. IfOk c.judge.result (TrueVerdict night.station ps plan)) told.night.same_passes c.judge.ensures.verdict in
     record {

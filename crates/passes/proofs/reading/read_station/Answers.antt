@@ -8,9 +8,9 @@ pub returns-then-dishes-lt1 : goal.returns-then-dishes-lt1
 unfolding station_refused dishes_ok turning_ok
 returns-then-dishes-lt1 c = grind (arith, nat_tests)
 
-pub returns-then-turn-gt-MAX-TURN : goal.returns-then-turn-gt-MAX-TURN
+pub returns-then-turn-gt-MAX_TURN : goal.returns-then-turn-gt-MAX_TURN
 unfolding station_refused dishes_ok turning_ok
-returns-then-turn-gt-MAX-TURN c = grind (arith, nat_tests)
+returns-then-turn-gt-MAX_TURN c = grind (arith, nat_tests)
 
 pub returns : goal.returns
 unfolding station_refused dishes_ok turning_ok

@@ -4,9 +4,9 @@ use Rattle.passes.specs.Checks.{in_range}
 use Rattle.passes.specs.Numbers.{sound, in_order}
 use Rattle.passes.proofs.reading.sound_pass.Goals as goal
 
-pub returns-then-i-ge-MAX-PASSES : goal.returns-then-i-ge-MAX-PASSES
+pub returns-then-i-ge-MAX_PASSES : goal.returns-then-i-ge-MAX_PASSES
 unfolding sound in_range in_order
-returns-then-i-ge-MAX-PASSES c = grind (arith, nat_tests)
+returns-then-i-ge-MAX_PASSES c = grind (arith, nat_tests)
 
 pub returns-then-from-to : goal.returns-then-from-to
 unfolding sound in_range in_order

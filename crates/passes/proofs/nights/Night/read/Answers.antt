@@ -6,11 +6,11 @@ use Rattle.passes.proofs.Taking.{sound_says, first_at_fault, none_at_fault, list
 use Rattle.passes.proofs.nights.Night.read.Goals as goal
 use Rattle.passes.proofs.nights.Night.read.Goals.{After-loop-i}
 
-pub returns-in-err-station : goal.returns-in-err-station
+pub returns-in_err-station : goal.returns-in_err-station
 unfolding refused
-returns-in-err-station c =
-    let p = err_from_is_err_and c.from-residual.result c.from-residual.ensures.1 in
-    let told = c.in-err-station.ensures.refusal in
+returns-in_err-station c =
+    let p = err_from_is_err_and c.from_residual.result c.from_residual.ensures.1 in
+    let told = c.in_err-station.ensures.refusal in
     record { refusal = rw (p.1, p.2, ← told) refl; night = rw p.1 tt }
 
 pub bounds-passes-i : goal.bounds-passes-i
@@ -19,8 +19,8 @@ bounds-passes-i c = (sound_says _ _ c.in-Some.ensures.0).early
 pub returns-in-None : goal.returns-in-None
 unfolding refused list_refused
 returns-in-None c =
-    let first = first_at_fault c.args.numbers.now c.loop-i.i (omega (arith, c.div-ceil-count.ensures)) c.loop-i.invariant.1 c.in-None.ensures in
-    record { refusal = rw (← c.in-ok-station.ensures.refusal, first) refl; night = tt }
+    let first = first_at_fault c.args.numbers.now c.loop-i.i (omega (arith, c.div_ceil-count.ensures)) c.loop-i.invariant.1 c.in-None.ensures in
+    record { refusal = rw (← c.in_ok-station.ensures.refusal, first) refl; night = tt }
 
 pub loop-i-preserved : goal.loop-i-preserved
 loop-i-preserved c =
@@ -34,25 +34,25 @@ loop-i-preserved c =
 
 -- where the loop ends, it has looked at every pass that the numbers begin
 all_sound : (c : After-loop-i) (k : ℕ) → k < begun c.args.numbers.now → sound c.args.numbers.now k ≡ true
-all_sound c k h = c.loop-i.invariant.1 k (omega (arith, c.div-ceil-count.ensures))
+all_sound c k h = c.loop-i.invariant.1 k (omega (arith, c.div_ceil-count.ensures))
 
 -- and the room holds the list
-filled : (c : After-loop-i) → take c.div-ceil-count.result c.loop-i.passes ≡ passes_in c.args.numbers.now
+filled : (c : After-loop-i) → take c.div_ceil-count.result c.loop-i.passes ≡ passes_in c.args.numbers.now
 filled c =
-    let count : c.div-ceil-count.result ≡ begun c.args.numbers.now = omega (arith, c.div-ceil-count.ensures) in
+    let count : c.div_ceil-count.result ≡ begun c.args.numbers.now = omega (arith, c.div_ceil-count.ensures) in
     ap (λ n. take n c.loop-i.passes) count ∙ room_is _ (all_sound c) _ c.loop-i.invariant.0 (λ k h. c.loop-i.invariant.2 k (omega arith))
 
-pub invariant-of-result : goal.invariant-of-result
-invariant-of-result c =
-    let told = c.in-ok-station.ensures in
+pub invariant_of-result : goal.invariant_of-result
+invariant_of-result c =
+    let told = c.in_ok-station.ensures in
     let ok = station_ok _ _ (sym told.refusal) in
-    let good = list_checked _ (all_sound c) c.in-ok-station.station (rw told.station ok.0) (rw told.station ok.1) in
-    (omega (arith, c.div-ceil-count.ensures, fours _ (all_sound c)), (rw (filled c) good, tt))
+    let good = list_checked _ (all_sound c) c.in_ok-station.station (rw told.station ok.0) (rw told.station ok.1) in
+    record { few = omega (arith, c.div_ceil-count.ensures, fours _ (all_sound c)); ok = rw (filled c) good }
 
 pub returns : goal.returns
 unfolding refused list_refused
 returns c =
-    let told = c.in-ok-station.ensures in
+    let told = c.in_ok-station.ensures in
     let after = (goal.at.returns c).After-loop-i in
     record {
       refusal = rw (← told.refusal, none_at_fault _ (all_sound after)) refl;
