@@ -16,10 +16,10 @@ loop-i-preserved c =
     elim c.if-next-i.branch [
       | then-next-i+then-table-i w ↦
           let first = w.first_from-next.ensures in
-          rw (w.room_is, w.next-is, add-one a.dish)
+          rw (w.room-is, w.next-is, add-one a.dish)
           (first.within, λ gs long right. led_follow a.station a.dish a.passes.now gs a.table.now c.requires.in_time long right l.i within l.next w.first_from-next.result l.room first (omega arith) w.if-next-i.true w.if-table-i.true (l.invariant.1 gs long right))
       | else-next-i w ↦
-          rw (w.room_is, w.next-is) (
+          rw (w.room-is, w.next-is) (
             l.invariant.0,
             λ gs long right. elim w.else-next-i.branch [
               | else-next-i-via-then-next-i+else-table-i v ↦ led_skip a.station a.dish a.passes.now gs a.table.now c.requires.in_time long right l.i within l.next l.room (omega arith) v.if-next-i.true v.if-table-i.false (l.invariant.1 gs long right)
