@@ -1,5 +1,5 @@
 -- Where choices lead, one by one and one list after the other. Assumes nothing.
-use Rattle.std.proofs.Common.{◌≡◌, ℕ, ◌+◌, List, [], ◌∷◌, ◌++◌, length, Some, None, Option, sym, refl, ap, ◌∙◌, add-zero, arith}
+use Rattle.std.proofs.Common.{◌≡◌, ℕ, ◌+◌, List, [], ◌∷◌, ◌++◌, length, Some, None, Option, refl, ◌∙◌, add-zero, arith}
 use Rattle.engine.specs.Runs.{Step, and_then, leads}
 
 -- what was gone on from, and where it led

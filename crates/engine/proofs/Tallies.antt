@@ -1,11 +1,11 @@
 -- What is gained along a run, and the same over states that carry it. Assumes nothing.
-use Rattle.std.proofs.Common.{◌≡◌, ℕ, ◌+◌, ◌-◌, ◌*◌, ◌^◌, ◌<◌, ◌≤◌, true, false, List, [], ◌∷◌, Some, None, Option, sym, refl, ap, ◌∙◌, add-zero, add_assoc, mul-le-mul_right, add-mul, one-mul, arith}
+use Rattle.std.proofs.Common.{◌≡◌, ℕ, ◌+◌, ◌*◌, ◌^◌, ◌<◌, ◌≤◌, List, [], ◌∷◌, Some, None, Option, sym, refl, ap, ◌∙◌, add-zero, add_assoc, mul-le-mul_right, add-mul, one-mul, arith}
 use Rattle.std.proofs.lemmas.Bool.{le-ltb, lt-ltb, ltb-true, ltb-false}
 use Rattle.std.specs.Option.{option_map}
 use Rattle.engine.specs.declared.gains.Tally.{Tally}
-use Rattle.engine.specs.Runs.{Step, and_then, leads, Way, Run}
+use Rattle.engine.specs.Runs.{and_then, leads, Way}
 use Rattle.engine.specs.Problems.{Laws, Hopeless, Answered}
-use Rattle.engine.specs.Gaining.{Gaining, GainLaws, gained, gained_by, if_any, Bound, BestGain, GainAnswered, tally_step, tallied}
+use Rattle.engine.specs.Gaining.{Gaining, GainLaws, gained, if_any, Bound, GainAnswered, tally_step, tallied}
 
 -- a value that a function was applied to, if there was one
 pub mapped_some : {X Y : Type 0} (f : X → Y) (o : Option X) (y : Y) → option_map f o ≡ Some y → (x : X) × (o ≡ Some x) × (y ≡ f x)

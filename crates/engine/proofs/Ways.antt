@@ -1,6 +1,6 @@
 -- Ways on from a state: their first choice, and what holds along them. Assumes nothing.
-use Rattle.std.proofs.Common.{◌≡◌, ℕ, ◌+◌, ◌<◌, ◌≤◌, List, [], ◌∷◌, ◌++◌, length, take, set, Some, None, Option, sym, refl, ap, ◌∙◌, add-zero, arith}
-use Rattle.std.proofs.lemmas.List.{length-take-le, nil_from_length, take_all, take_more_set, take-set, take-take, length-set}
+use Rattle.std.proofs.Common.{◌≡◌, ℕ, ◌+◌, ◌<◌, ◌≤◌, List, [], ◌∷◌, length, take, set, Some, sym, ap, ◌∙◌, add-zero, arith}
+use Rattle.std.proofs.lemmas.List.{length-take-le, take_all, take_more_set, take-set, take-take, length-set}
 use Rattle.engine.specs.Runs.{Moves, MoveLaws, leads, Way, Run}
 use Rattle.engine.specs.Searching.{Came}
 use Rattle.engine.proofs.Leading.{leads_first, leads_push}

@@ -1,5 +1,5 @@
 -- Decisions that gain something. Assumes nothing: these are definitions.
-use Rattle.std.specs.Prelude.{◌≡◌, ℕ, ◌+◌, ◌*◌, ◌^◌, ◌<◌, ◌≤◌, true, List, [], ◌∷◌, Some, None, Option, nat_lt}
+use Rattle.std.specs.Prelude.{◌≡◌, ℕ, ◌+◌, ◌*◌, ◌^◌, ◌<◌, ◌≤◌, List, [], ◌∷◌, Some, None, Option, nat_lt}
 use Rattle.std.specs.Option.{option_map}
 use Rattle.engine.specs.declared.gains.Tally.{Tally}
 use Rattle.engine.specs.Runs.{Step, Moves, MoveLaws, Way, Run}

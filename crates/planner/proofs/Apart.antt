@@ -1,5 +1,5 @@
 -- Why lists apart in time are planned each for itself. Assumes nothing.
-use Rattle.std.proofs.Common.{◌≡◌, ℕ, suc, ◌+◌, ◌<◌, ◌≤◌, true, false, not, ◌||◌, eqb, List, [], ◌∷◌, ◌++◌, length, take, drop, sym, refl, ap, ◌∙◌, arith, length-append}
+use Rattle.std.proofs.Common.{◌≡◌, ℕ, suc, ◌+◌, ◌≤◌, true, false, not, ◌||◌, eqb, List, [], ◌∷◌, ◌++◌, length, take, drop, refl, arith, length-append}
 use Rattle.std.proofs.lemmas.List.{take-append-drop, length-take-le}
 use Rattle.std.proofs.lemmas.Bool.{and_from, and_parts, both_ways}
 use Rattle.std.proofs.lemmas.Bool.Decides.{nat_tests}
@@ -7,7 +7,6 @@ use Rattle.passes.specs.declared.model.Pass.{Pass}
 use Rattle.passes.specs.declared.model.Station.{Station}
 use Rattle.passes.specs.Follow.{one_after}
 use Rattle.passes.specs.Plans.{Plan, free_for, fits_one, fits, worth_of, Best}
-use Rattle.passes.specs.Rule.{nth}
 use Rattle.passes.proofs.Goodness.{free_from, fits_says, fits_one_says, fits_one_from}
 use Rattle.planner.specs.Statements.{EndsBefore, BeginsAfter, SideBySide}
 

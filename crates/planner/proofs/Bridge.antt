@@ -1,20 +1,18 @@
 -- Why, for passes in order of begin, the good plans are those whose decisions can be made one after the other. Assumes nothing.
-use Rattle.std.proofs.Common.{◌≡◌, ℕ, zero, suc, ◌+◌, ◌-◌, ◌<◌, ◌≤◌, true, false, cond, eqb, leb, List, [], ◌∷◌, length, get_or, drop, set, replicate, Some, None, Option, sym, refl, ap, ◌∙◌, subst, ⊎_elim, arith}
+use Rattle.std.proofs.Common.{◌≡◌, ℕ, zero, suc, ◌+◌, ◌-◌, ◌<◌, ◌≤◌, true, false, List, [], ◌∷◌, length, get_or, Some, sym, refl, ap, ◌∙◌, ⊎_elim, arith}
 use Rattle.std.proofs.lemmas.List.{get_or-set_same, get_or-set_other, length-set}
-use Rattle.std.proofs.lemmas.Bool.{and_from, and_parts, both_ways, cases_Bool, cases_eq, le-leb, leb-true}
+use Rattle.std.proofs.lemmas.Bool.{and_from, and_parts, both_ways, cases_eq}
 use Rattle.std.proofs.lemmas.Bool.Decides.{nat_tests}
-use Rattle.engine.specs.Runs.{and_then}
 use Rattle.engine.proofs.Leading.{and_then_some}
 use Rattle.passes.specs.declared.model.Pass.{Pass}
-use Rattle.passes.specs.declared.model.Station.{Station}
-use Rattle.passes.specs.Follow.{may, one_after}
+use Rattle.passes.specs.Follow.{may}
 use Rattle.passes.specs.Plans.{Plan, free_for, fits_one}
 use Rattle.passes.specs.Rule.{nth, says}
-use Rattle.passes.proofs.Goodness.{FitsOne, free_says, free_from, fits_one_says, fits_one_from}
+use Rattle.passes.proofs.Goodness.{free_says, free_from, fits_one_says, fits_one_from}
 use Rattle.capacity.specs.Order.{InTime}
 use Rattle.planner.specs.declared.scheduling.FreeFrom.{FreeFrom}
 use Rattle.planner.specs.Dishes.{seen_by, fits_each}
-use Rattle.planner.specs.Nights.{can_follow, after_following, decide}
+use Rattle.planner.specs.Nights.{after_following, decide}
 use Rattle.planner.proofs.Following.{follow}
 
 -- what is left of passes in order of time is so too

@@ -1,16 +1,16 @@
 -- The decisions of a night, pass by pass, and what they gain. Assumes nothing.
-use Rattle.std.proofs.Common.{◌≡◌, ℕ, zero, suc, ◌+◌, ◌≤◌, true, false, cond, eqb, List, [], ◌∷◌, length, drop, replicate, Some, None, Option, sym, refl, ap, ◌∙◌, arith}
+use Rattle.std.proofs.Common.{◌≡◌, ℕ, zero, suc, ◌+◌, ◌≤◌, cond, eqb, List, [], ◌∷◌, length, drop, replicate, Some, None, Option, sym, refl, ap, arith}
 use Rattle.std.proofs.lemmas.List.{drop_more, length-replicate}
 use Rattle.std.proofs.lemmas.Bool.Decides.{nat_tests}
-use Rattle.engine.specs.Runs.{and_then, leads, Way, Run}
-use Rattle.engine.specs.Gaining.{gained, if_any, Bound}
+use Rattle.engine.specs.Runs.{and_then, leads, Run}
+use Rattle.engine.specs.Gaining.{gained, Bound}
 use Rattle.engine.proofs.Leading.{leads_first}
 use Rattle.passes.specs.declared.model.Pass.{Pass}
 use Rattle.passes.specs.Plans.{Plan, worth_of}
 use Rattle.passes.specs.Rule.{no_pass, nth}
 use Rattle.planner.specs.declared.scheduling.FreeFrom.{FreeFrom}
 use Rattle.planner.specs.Nights.{decide, night}
-use Rattle.planner.specs.Sums.{all_worth, AddsUp}
+use Rattle.planner.specs.Sums.{all_worth}
 
 worth_none : (ps : List Pass) → worth_of ps [] ≡ 0
 unfolding worth_of

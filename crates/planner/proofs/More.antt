@@ -1,5 +1,5 @@
 -- Why more dishes, less turning, or a pass more never cost worth. Assumes nothing.
-use Rattle.std.proofs.Common.{◌≡◌, ℕ, zero, suc, ◌+◌, ◌<◌, ◌≤◌, true, false, not, ◌||◌, eqb, List, [], ◌∷◌, ◌++◌, length, sym, refl, ap, ◌∙◌, ⊎_elim, arith, length-append}
+use Rattle.std.proofs.Common.{◌≡◌, ℕ, ◌+◌, ◌<◌, ◌≤◌, true, false, not, ◌||◌, eqb, List, [], ◌∷◌, ◌++◌, length, refl, arith, length-append}
 use Rattle.std.proofs.lemmas.Bool.{and_from, and_parts, both_ways}
 use Rattle.std.proofs.lemmas.Bool.Decides.{nat_tests}
 use Rattle.std.specs.List.{insert, remove}
@@ -7,7 +7,7 @@ use Rattle.passes.specs.declared.model.Pass.{Pass}
 use Rattle.passes.specs.declared.model.Station.{Station}
 use Rattle.passes.specs.Follow.{one_after}
 use Rattle.passes.specs.Plans.{Plan, free_for, fits_one, fits, worth_of, Best}
-use Rattle.passes.specs.Rule.{nth, Clash}
+use Rattle.passes.specs.Rule.{nth}
 use Rattle.passes.proofs.Goodness.{fits_says, fits_from, fits_one_says, fits_one_from}
 use Rattle.planner.specs.Statements.{MoreDishes, OneMore}
 

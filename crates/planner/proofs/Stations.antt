@@ -1,14 +1,14 @@
 -- Nights of a station whose dishes all take the same time to turn. Assumes nothing.
-use Rattle.std.proofs.Common.{◌≡◌, ℕ, zero, suc, ◌-◌, ◌<◌, ◌≤◌, true, false, ◌&&◌, List, [], ◌∷◌, length, get_or, replicate, sym, refl, ap, ◌∙◌, subst, ⊎_elim, arith}
+use Rattle.std.proofs.Common.{◌≡◌, ℕ, zero, suc, ◌-◌, ◌<◌, ◌≤◌, true, false, List, [], ◌∷◌, length, get_or, replicate, sym, refl, ap, ◌∙◌, ⊎_elim, arith}
 use Rattle.std.proofs.lemmas.List.{get_or-replicate, get_or_past, length-replicate}
 use Rattle.std.proofs.lemmas.Bool.{cases_lt}
 use Rattle.std.proofs.lemmas.Bool.Decides.{nat_tests}
-use Rattle.engine.specs.Runs.{Way, Run}
-use Rattle.engine.specs.Gaining.{gained_by, BestGain}
+use Rattle.engine.specs.Runs.{Run}
+use Rattle.engine.specs.Gaining.{BestGain}
 use Rattle.passes.specs.declared.model.Pass.{Pass}
 use Rattle.passes.specs.declared.model.Station.{Station}
 use Rattle.passes.specs.Checks.{checked}
-use Rattle.passes.specs.Plans.{Plan, fits_one, fits, worth_of, Best}
+use Rattle.passes.specs.Plans.{Plan, fits_one, fits, Best}
 use Rattle.passes.specs.Rule.{says}
 use Rattle.capacity.specs.Alone.{Planned}
 use Rattle.capacity.specs.Order.{InTime}

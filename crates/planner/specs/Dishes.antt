@@ -1,8 +1,8 @@
 -- Good plans for dishes each of which takes its own time to turn. Assumes nothing: these are definitions.
-use Rattle.std.specs.Prelude.{◌≡◌, ℕ, ◌-◌, ◌≤◌, Bool, true, false, ◌&&◌, List, [], ◌∷◌, length, replicate, slice_index}
+use Rattle.std.specs.Prelude.{ℕ, ◌-◌, Bool, true, false, ◌&&◌, List, [], ◌∷◌, length, replicate, slice_index}
 use Rattle.passes.specs.declared.model.Pass.{Pass}
 use Rattle.passes.specs.declared.model.Station.{Station}
-use Rattle.passes.specs.Plans.{Plan, fits_one, worth_of}
+use Rattle.passes.specs.Plans.{Plan, fits_one}
 
 -- the station as the dish that plans call d sees it: as if all its dishes took the time to turn that this one takes
 abbrev pub seen_by : (turns : List ℕ) → ℕ → Station

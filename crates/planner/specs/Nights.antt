@@ -1,6 +1,5 @@
 -- A night as a sequence of decisions. Assumes nothing: these are definitions.
-use Rattle.std.specs.Prelude.{◌≡◌, ℕ, ◌+◌, ◌-◌, ◌≤◌, Bool, cond, ◌&&◌, List, [], ◌∷◌, length, replicate, Some, None, Option, ◌==◌, nat_le, slice_index, slice_set}
-use Rattle.engine.specs.Runs.{Moves}
+use Rattle.std.specs.Prelude.{◌≡◌, ℕ, ◌+◌, ◌-◌, Bool, cond, ◌&&◌, List, length, replicate, Some, None, Option, ◌==◌, nat_le, slice_index, slice_set}
 use Rattle.engine.specs.Gaining.{Gaining}
 use Rattle.passes.specs.declared.model.Pass.{Pass}
 use Rattle.passes.specs.Follow.{may}

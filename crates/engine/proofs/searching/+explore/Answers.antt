@@ -1,4 +1,4 @@
-use Rattle.std.proofs.Common.{◌≡◌, ◌-◌, ◌<◌, sym, refl, ap, ◌∙◌, arith}
+use Rattle.std.proofs.Common.{◌≡◌, ◌-◌, sym, refl, ◌∙◌, arith}
 use Rattle.engine.proofs.Ways.{fine_came, came_all, came_more, came_front, front_kept}
 use Rattle.engine.proofs.Trying.{improved_none, improved_more, fine_best, tried_none, tried_refused, tried_more, tried_all}
 use Rattle.engine.proofs.searching.+explore.Goals as goal

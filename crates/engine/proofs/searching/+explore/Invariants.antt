@@ -1,4 +1,4 @@
-use Rattle.std.proofs.Common.{◌≡◌, ◌-◌, ◌≤◌, length, take}
+use Rattle.std.proofs.Common.{◌≡◌, ◌-◌, take}
 use Rattle.engine.specs.Searching.{Improved}
 use Rattle.engine.proofs.Trying.{Tried}
 use Rattle.engine.proofs.searching.+explore.Given as goal

@@ -1,4 +1,4 @@
-use Rattle.std.proofs.Common.{Some, sym, refl, ap, arith}
+use Rattle.std.proofs.Common.{Some, sym, ap, arith}
 use Rattle.engine.specs.Runs.{leads}
 use Rattle.engine.proofs.Trying.{answered}
 use Rattle.engine.proofs.searching.search.Goals as goal
