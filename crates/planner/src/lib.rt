@@ -109,8 +109,8 @@ mod tests {
 
     #[test]
     fn eight_dishes(rt: HostRuntime) {
-        // all but the last have turned when the next eight begin, and that one when the next but one do
-        let turns = [0, 10, 2, 3, 4, 5, 6, 11];
+        // all have turned when the next eight begin
+        let turns = [0, 10, 2, 3, 4, 5, 6, 7];
         let passes = by_eights();
         let problem = Summed {
             gains: Scheduling::new(&turns, &passes),
@@ -118,6 +118,6 @@ mod tests {
         let mut made = [0; 128];
         let mut room = [9; 128];
         let gained = gain_most(&problem, &mut made, &mut room);
-        assert_eq!(rt; gained, Some(120 * u32::MAX as u64));
+        assert_eq!(rt; gained, Some(128 * u32::MAX as u64));
     }
 }
