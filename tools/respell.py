@@ -3,7 +3,7 @@
 
 Run once at the top, after the kit's own script for older repositories: words in snake case, facts and records in camel
 case. It changes the .antt files of specs/ and proofs/ and the .rt files of src/, in comments only what stands between
-backticks, and refuses to run where a new name already stands for something else.
+backticks, and refuses to run where a new name stands already, but for those of SHARED, which were looked at one by one.
 """
 import glob
 import re
@@ -89,8 +89,8 @@ worths-small=worths_small wrong-unfit=wrong_unfit wrong-unsound=wrong_unsound
 
 NAMES = dict(pair.split('=') for pair in TABLE.split())
 
-# new names that a file had before, and that are meant to be the same there: labels of clauses (a proof names them as
-# fields), functions and tests of src/ (another namespace than definitions)
+# new names that stood already, in some file, and may fall together with a definition, a lemma or a local name: labels of
+# clauses (a proof names them as fields), and functions and tests of src/ (another namespace than definitions)
 SHARED = {'a_place_each', 'few_dishes', 'in_time', 'one_after', 'same_passes', 'touching_passes', 'turned_away', 'worth_of',
           'a_gain_each', 'an_entry_each', 'one_dish', 'the_worths', 'few_passes', 'best_fine', 'other_fine', 'same_front'}
 

@@ -120,4 +120,21 @@ mod tests {
         let gained = gain_most(&problem, &mut made, &mut room);
         assert_eq!(rt; gained, Some(128 * u32::MAX as u64));
     }
+
+    #[test]
+    fn a_dish_with_its_own_turning(rt: HostRuntime) {
+        // the first eight of those passes, and a ninth that only the last dish may follow: it has turned by then, or it hasn't
+        let mut passes = by_eights();
+        passes[8].marks = 128;
+        for (turn, followed) in [(10, 9), (11, 8)] {
+            let turns = [0, 10, 2, 3, 4, 5, 6, turn];
+            let problem = Summed {
+                gains: Scheduling::new(&turns, &passes[0..9]),
+            };
+            let mut made = [0; 9];
+            let mut room = [9; 9];
+            let gained = gain_most(&problem, &mut made, &mut room);
+            assert_eq!(rt; gained, Some(followed * u32::MAX as u64));
+        }
+    }
 }
