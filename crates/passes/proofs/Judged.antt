@@ -1,9 +1,8 @@
 -- What follows where something is wrong with a plan, and that of each plan one verdict is true. Assumes nothing.
-use Rattle.std.proofs.Common.{◌≡◌, ℕ, ◌<◌, false, List, length, sym, refl, ap, ◌∙◌, subst, ⊎_elim, arith}
+use Rattle.std.proofs.Common.{◌≡◌, ℕ, ◌<◌, false, List, length, Ok, Err, sym, refl, ap, ◌∙◌, subst, ⊎_elim, arith}
 use Rattle.std.proofs.lemmas.Bool.{both_ways, cases_Bool, cases_order}
 use Rattle.passes.specs.declared.judging.Fault.{Fault}
 use Rattle.passes.specs.declared.judging.Fault.TheVariants.{NoSuchDish, MayNotFollow, TooNear}
-use Rattle.passes.specs.declared.judging.Verdict.TheVariants.{Good, Bad}
 use Rattle.passes.specs.declared.model.Pass.{Pass}
 use Rattle.passes.specs.declared.model.Station.{Station}
 use Rattle.passes.specs.Plans.{Plan, fits}
@@ -44,17 +43,17 @@ module _ (s : Station) (ps : List Pass) (ds : Plan) where
   one_fault i (TooNear j) (TooNear k) w u = ap TooNear (one_first_clash i j k w.3 u.3)
 
 pub one_verdict : OneVerdict
-one_verdict s ps ds (Good v) (Good w) h g = ap Good (h.1 ∙ sym g.1)
-one_verdict s ps ds (Good v) (Bad j b) h g = absurd (both_ways _ g.0 h.0)
-one_verdict s ps ds (Bad i a) (Good w) h g = absurd (both_ways _ h.0 g.0)
-one_verdict s ps ds (Bad i a) (Bad j b) h g =
+one_verdict s ps ds (Ok v) (Ok w) h g = ap Ok (h.1 ∙ sym g.1)
+one_verdict s ps ds (Ok v) (Err b) h g = absurd (both_ways _ g.0 h.0)
+one_verdict s ps ds (Err a) (Ok w) h g = absurd (both_ways _ h.0 g.0)
+one_verdict s ps ds (Err a) (Err b) h g =
     ⊎_elim
     (λ same.
-    let there = subst (λ k. WrongWith s ps ds k b) (sym same) g.2 in
-    λ t. Bad (same t) (one_fault s ps ds i a b h.2 there t))
+    let there = subst (λ k. WrongWith s ps ds k b.fault) (sym same) g.2 in
+    λ t. Err (record { pass = same t; fault = one_fault s ps ds a.pass a.fault b.fault h.2 there t }))
     (λ other.
     ⊎_elim
-    (λ before. absurd (wrong_unsound s ps ds i a h.2 (g.3 i before)))
-    (λ after. absurd (wrong_unsound s ps ds j b g.2 (h.3 j after)))
+    (λ before. absurd (wrong_unsound s ps ds a.pass a.fault h.2 (g.3 a.pass before)))
+    (λ after. absurd (wrong_unsound s ps ds b.pass b.fault g.2 (h.3 b.pass after)))
     other)
-    (cases_order i j)
+    (cases_order a.pass b.pass)

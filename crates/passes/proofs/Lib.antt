@@ -6,4 +6,3 @@ pub mod Judged
 pub mod Marks
 pub mod Taking
 pub mod Touching
-pub mod Worth

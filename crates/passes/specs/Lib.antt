@@ -8,3 +8,4 @@ pub mod Nights
 pub mod Rule
 pub mod Statements
 pub mod Verdicts
+pub mod Texts

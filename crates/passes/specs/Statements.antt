@@ -1,6 +1,5 @@
 -- Statements about the definitions. Each is proved: a function of src/laws.rt has it as its contract. Assumes nothing.
 use Rattle.std.specs.Prelude.{◌≡◌, ℕ, ◌*◌, ◌<◌, true, false, List, [], ◌∷◌, length, None, MatchOption}
-use Rattle.passes.specs.declared.judging.Verdict.{Verdict}
 use Rattle.passes.specs.declared.model.Pass.{Pass}
 use Rattle.passes.specs.declared.model.Station.{Station}
 use Rattle.passes.specs.Checks.{checked}
@@ -9,7 +8,7 @@ use Rattle.passes.specs.Numbers.{passes_in, begun, sound, first_fault}
 use Rattle.passes.specs.Plans.{Plan, fits, worth_of, Best}
 use Rattle.passes.specs.Refusals.{refused}
 use Rattle.passes.specs.Rule.{GoodPlan}
-use Rattle.passes.specs.Verdicts.{TrueVerdict}
+use Rattle.passes.specs.Verdicts.{Verdict, TrueVerdict}
 
 -- the test for good plans says what the rule says, pass by pass
 abbrev pub TestIsRule : Type 0

@@ -1,4 +1,4 @@
-ghost use Rattle.std.specs.Prelude.{◌≡◌, ℕ, ◌<◌, ◌≤◌, length, IfOk, MatchOption};
+ghost use Rattle.std.specs.Prelude.{◌≡◌, ℕ, ◌<◌, ◌≤◌, length, Some, IfOk, MatchBool, MatchOption};
 ghost use Rattle.std.specs.Result.{result_err};
 ghost use Rattle.passes.specs.Checks.{most_passes};
 ghost use Rattle.passes.specs.Nights.{passes_of, station_of};
@@ -6,11 +6,14 @@ ghost use Rattle.passes.specs.Numbers.{passes_in};
 ghost use Rattle.passes.specs.Plans.{worth_of};
 ghost use Rattle.passes.specs.Refusals.{room_refused, refused_with_room};
 ghost use Rattle.passes.specs.Rule.{says, Clash, FirstClash, SoundAt};
+ghost use Rattle.passes.specs.Texts.{fault_text, flaw_text};
 ghost use Rattle.passes.specs.Verdicts.{WrongWith, TrueVerdict};
 
 use crate::model::{Pass, Station};
 use crate::nights::Night;
 use crate::refusals::Refusal;
+use std::error::Error;
+use std::fmt;
 
 // What is wrong with a pass of a plan.
 #[derive(Clone, Copy, Debug, PartialEq)]
@@ -23,14 +26,39 @@ pub enum Fault {
     TooNear(usize),
 }
 
-// What is said of a plan.
-#[derive(Clone, Copy, Debug, PartialEq)]
-pub enum Verdict {
-    // It is good, and worth so much.
-    Good(u64),
-    // The first pass for which it isn't good, and why.
-    Bad(usize, Fault),
+impl fmt::Display for Fault {
+    ghost output = { λ f. Some (fault_text f) };
+
+    fn fmt<W: fmt::Write>(&self, f: &mut fmt::Formatter<W>) -> fmt::Result {
+        match self {
+            Fault::NoSuchDish => f.write_str("no such dish"),
+            Fault::MayNotFollow => f.write_str("the dish may not follow it"),
+            Fault::TooNear(other) => write!(f, "too near to pass {other}"),
+        }
+    }
 }
+
+impl Error for Fault {}
+
+// The first pass for which a plan isn't good, and why.
+#[derive(Clone, Copy, Debug, PartialEq)]
+pub struct Flaw {
+    pub pass: usize,
+    pub fault: Fault,
+}
+
+impl fmt::Display for Flaw {
+    ghost output = { λ f. Some (flaw_text f) };
+
+    fn fmt<W: fmt::Write>(&self, f: &mut fmt::Formatter<W>) -> fmt::Result {
+        write!(f, "pass {}: {}", self.pass, self.fault)
+    }
+}
+
+impl Error for Flaw {}
+
+// What is said of a plan: what it is worth if it is good, or what is wrong with it.
+pub type Verdict = Result<u64, Flaw>;
 
 impl Night {
     // Says whether a plan is good and what it is worth, or the first pass for which it isn't, and why.
@@ -38,14 +66,13 @@ impl Night {
         ensures refusal { result_err result ≡ room_refused (length (passes_of self.now)) (length plan.now) }
         ensures verdict { IfOk result (TrueVerdict self.now.station (passes_of self.now) plan.now) }
     {
-        let passes = self.passes();
         self.check_room(plan.len())?;
-        for i in 0..passes.len() {
-            if let Some(fault) = fault_at(self.station, passes, plan, i) {
-                return Ok(Verdict::Bad(i, fault));
-            }
-        }
-        Ok(Verdict::Good(worth_of(passes, plan)))
+        let judged = Judged {
+            station: self.station,
+            passes: self.passes(),
+            plan,
+        };
+        Ok(judged.verdict())
     }
 }
 
@@ -58,54 +85,75 @@ pub fn judge(dishes: u64, turn: u64, numbers: &[u32], plan: &[u8]) -> Result<Ver
     night.judge(plan)
 }
 
-// The first other pass that is too near to pass i for the dish that follows both.
-fn first_clash(station: Station, passes: &[Pass], plan: &[u8], i: usize) -> Option<usize>
-    requires one_each { length plan.now ≡ length passes.now }
-    requires within { i < length passes.now }
-    requires followed { 0 < says plan.now i }
-    ensures { MatchOption result ((j : ℕ) → Clash station passes.now plan.now i j → ⊥) (FirstClash station passes.now plan.now i) }
-{
-    for j in 0..passes.len() {
-        if j != i && plan[i] == plan[j] && !passes[i].one_after(passes[j], station.turn) {
-            return Some(j);
-        }
-    }
-    None
+// A plan that has a number for each pass.
+#[derive(Drop)]
+struct Judged<'a> {
+    station: Station,
+    passes: &'a [Pass],
+    plan: &'a [u8],
+    ghost few: { length passes.now ≤ most_passes },
+    ghost one_each: { length plan.now ≡ length passes.now },
 }
 
-// What is wrong with pass i, if anything.
-fn fault_at(station: Station, passes: &[Pass], plan: &[u8], i: usize) -> Option<Fault>
-    requires one_each { length plan.now ≡ length passes.now }
-    requires within { i < length passes.now }
-    ensures { MatchOption result (SoundAt station passes.now plan.now i) (WrongWith station passes.now plan.now i) }
-{
-    let named = plan[i];
-    if named == 0 {
-        return None;
-    }
-    if named > station.dishes {
-        return Some(Fault::NoSuchDish);
-    }
-    if !passes[i].may_be_followed_by(named - 1) {
-        return Some(Fault::MayNotFollow);
-    }
-    match first_clash(station, passes, plan, i) {
-        Some(other) => Some(Fault::TooNear(other)),
-        None => None,
-    }
-}
-
-// What the passes that the plan follows are worth together.
-fn worth_of(passes: &[Pass], plan: &[u8]) -> u64
-    requires one_each { length plan.now ≡ length passes.now }
-    requires few { length passes.now ≤ most_passes }
-    ensures { result ≡ worth_of passes.now plan.now }
-{
-    let mut worth = 0;
-    for (i, pass) in passes.iter().enumerate() {
-        if plan[i] != 0 {
-            worth += pass.worth as u64;
+impl Judged<'_> {
+    // What is said of the plan.
+    fn verdict(&self) -> Verdict
+        ensures { TrueVerdict self.now.station self.now.passes.now self.now.plan.now result }
+    {
+        for i in 0..self.passes.len() {
+            if let Some(fault) = self.fault_at(i) {
+                return Err(Flaw { pass: i, fault });
+            }
         }
+        Ok(self.worth())
     }
-    worth
+
+    // What is wrong with pass i, if anything.
+    fn fault_at(&self, i: usize) -> Option<Fault>
+        requires { i < length self.now.passes.now }
+        ensures { MatchOption result (SoundAt self.now.station self.now.passes.now self.now.plan.now i) (WrongWith self.now.station self.now.passes.now self.now.plan.now i) }
+    {
+        let dish = self.plan[i].checked_sub(1)?;
+        if dish >= self.station.dishes {
+            return Some(Fault::NoSuchDish);
+        }
+        if !self.passes[i].may_be_followed_by(dish) {
+            return Some(Fault::MayNotFollow);
+        }
+        self.first_clash(i).map(Fault::TooNear)
+    }
+
+    // The first other pass that is too near to pass i for the dish that follows both.
+    fn first_clash(&self, i: usize) -> Option<usize>
+        requires within { i < length self.now.passes.now }
+        requires followed { 0 < says self.now.plan.now i }
+        ensures { MatchOption result ((j : ℕ) → Clash self.now.station self.now.passes.now self.now.plan.now i j → ⊥) (FirstClash self.now.station self.now.passes.now self.now.plan.now i) }
+    {
+        (0..self.passes.len()).find(|j| self.clash(i, *j))
+    }
+
+    // Whether one dish follows both passes, and has no time to turn between them.
+    fn clash(&self, i: usize, j: usize) -> bool
+        requires within { i < length self.now.passes.now }
+        requires other_within { j < length self.now.passes.now }
+        requires followed { 0 < says self.now.plan.now i }
+        ensures { MatchBool result (Clash self.now.station self.now.passes.now self.now.plan.now i j) (Clash self.now.station self.now.passes.now self.now.plan.now i j → ⊥) }
+    {
+        j != i
+            && self.plan[i] == self.plan[j]
+            && !self.passes[i].one_after(self.passes[j], self.station.turn)
+    }
+
+    // What the passes that the plan follows are worth together.
+    fn worth(&self) -> u64
+        ensures { result ≡ worth_of self.now.passes.now self.now.plan.now }
+    {
+        let mut worth = 0;
+        for (pass, named) in self.passes.iter().zip(self.plan) {
+            if *named != 0 {
+                worth += pass.worth as u64;
+            }
+        }
+        worth
+    }
 }

@@ -9,7 +9,7 @@ mod nights;
 mod reading;
 mod refusals;
 
-pub use judging::{Fault, Verdict, judge};
+pub use judging::{Fault, Flaw, Verdict, judge};
 pub use laws::{place_stands, rule_stands, taken_stands, touching_stands, verdict_stands};
 pub use model::{Pass, Station};
 pub use nights::{MAX_DISHES, MAX_PASSES, Night};
@@ -37,14 +37,24 @@ mod tests {
 
     const TOUCHING: [u32; 8] = [0, 10, 5, 15, 10, 20, 5, 15];
 
+    // What is said of a good plan.
+    fn good(worth: u64) -> Result<Verdict, Refusal> {
+        Ok(Ok(worth))
+    }
+
+    // What is said of one that isn't.
+    fn bad(pass: usize, fault: Fault) -> Result<Verdict, Refusal> {
+        Ok(Err(Flaw { pass, fault }))
+    }
+
     #[test]
     fn good_plans(rt: HostRuntime) {
-        assert_eq!(rt; judge(1, 0, &FIVE, &[1, 0, 1, 0, 1]), Ok(Verdict::Good(18)));
-        assert_eq!(rt; judge(1, 3, &FIVE, &[0, 1, 0, 0, 1]), Ok(Verdict::Good(16)));
-        assert_eq!(rt; judge(2, 0, &FIVE, &[2, 1, 2, 1, 2]), Ok(Verdict::Good(31)));
-        assert_eq!(rt; judge(2, 3, &FIVE, &[2, 1, 0, 2, 1]), Ok(Verdict::Good(25)));
-        assert_eq!(rt; judge(2, 0, &MARKED, &[0, 1, 2]), Ok(Verdict::Good(15)));
-        assert_eq!(rt; judge(1, 0, &[], &[]), Ok(Verdict::Good(0)));
+        assert_eq!(rt; judge(1, 0, &FIVE, &[1, 0, 1, 0, 1]), good(18));
+        assert_eq!(rt; judge(1, 3, &FIVE, &[0, 1, 0, 0, 1]), good(16));
+        assert_eq!(rt; judge(2, 0, &FIVE, &[2, 1, 2, 1, 2]), good(31));
+        assert_eq!(rt; judge(2, 3, &FIVE, &[2, 1, 0, 2, 1]), good(25));
+        assert_eq!(rt; judge(2, 0, &MARKED, &[0, 1, 2]), good(15));
+        assert_eq!(rt; judge(1, 0, &[], &[]), good(0));
     }
 
     #[test]
@@ -52,41 +62,41 @@ mod tests {
         let may_not = Fault::MayNotFollow;
         assert_eq!(rt;
             judge(2, 0, &MARKED, &[1, 0, 1]),
-            Ok(Verdict::Bad(2, may_not))
+            bad(2, may_not)
         );
         // a mark of a dish that isn't there doesn't count
         assert_eq!(rt;
             judge(1, 0, &MARKED, &[0, 0, 2]),
-            Ok(Verdict::Bad(2, Fault::NoSuchDish))
+            bad(2, Fault::NoSuchDish)
         );
         assert_eq!(rt;
             judge(1, 0, &MARKED, &[0, 0, 1]),
-            Ok(Verdict::Bad(2, may_not))
+            bad(2, may_not)
         );
         assert_eq!(rt;
             judge(4, 0, &FIVE, &[0, 255, 0, 0, 0]),
-            Ok(Verdict::Bad(1, Fault::NoSuchDish))
+            bad(1, Fault::NoSuchDish)
         );
         // of several faults the first pass, and of several near ones the first other
         assert_eq!(rt;
             judge(2, 0, &FIVE, &[0, 1, 1, 1, 3]),
-            Ok(Verdict::Bad(1, Fault::TooNear(2)))
+            bad(1, Fault::TooNear(2))
         );
         assert_eq!(rt;
             judge(1, 7, &FIVE, &[1, 0, 1, 0, 1]),
-            Ok(Verdict::Bad(0, Fault::TooNear(2)))
+            bad(0, Fault::TooNear(2))
         );
     }
 
     #[test]
     fn touching_passes(rt: HostRuntime) {
-        assert_eq!(rt; judge(1, 0, &TOUCHING, &[1, 1]), Ok(Verdict::Good(10)));
+        assert_eq!(rt; judge(1, 0, &TOUCHING, &[1, 1]), good(10));
         assert_eq!(rt;
             judge(1, 1, &TOUCHING, &[1, 1]),
-            Ok(Verdict::Bad(0, Fault::TooNear(1)))
+            bad(0, Fault::TooNear(1))
         );
-        assert_eq!(rt; judge(2, 1, &TOUCHING, &[2, 1]), Ok(Verdict::Good(10)));
-        assert_eq!(rt; judge(1, 1, &TOUCHING, &[0, 1]), Ok(Verdict::Good(5)));
+        assert_eq!(rt; judge(2, 1, &TOUCHING, &[2, 1]), good(10));
+        assert_eq!(rt; judge(1, 1, &TOUCHING, &[0, 1]), good(5));
     }
 
     #[test]
@@ -102,7 +112,7 @@ mod tests {
         assert_eq!(rt; judge(1, 100_001, &[7], &[0; 5]), Err(Refusal::BadTurning));
         assert_eq!(rt; judge(1, 0, &[7], &[0; 5]), Err(Refusal::BadPass(0)));
         assert_eq!(rt; judge(1, 0, &FIVE, &[0; 4]), Err(Refusal::BadRoom(4)));
-        assert_eq!(rt; judge(4, 100_000, &FIVE, &[0; 5]), Ok(Verdict::Good(0)));
+        assert_eq!(rt; judge(4, 100_000, &FIVE, &[0; 5]), good(0));
     }
 
     // One pass, then a second one.
@@ -115,7 +125,7 @@ mod tests {
         let at_1 = Err(Refusal::BadPass(1));
         assert_eq!(rt;
             judge(1, 0, &second(5, 1_000_000, 1_000_000, 15), &[0, 1]),
-            Ok(Verdict::Good(1_000_000))
+            good(1_000_000)
         );
         assert_eq!(rt;
             judge(1, 0, &second(4, 10, 1, 15), &[0; 2]),
@@ -167,7 +177,7 @@ mod tests {
         let mut numbers = chain();
         assert_eq!(rt;
             judge(1, 0, &numbers[0..192], &[1; 48]),
-            Ok(Verdict::Good(48_000_000))
+            good(48_000_000)
         );
         assert_eq!(rt; judge(1, 0, &numbers, &[1; 49]), Err(Refusal::BadPass(48)));
         // a fault further on doesn't matter, and one further in front does

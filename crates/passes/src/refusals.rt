@@ -1,5 +1,9 @@
-ghost use Rattle.std.specs.Prelude.{◌≡◌};
+ghost use Rattle.std.specs.Prelude.{◌≡◌, Some};
 ghost use Rattle.passes.specs.Refusals.{number_of, place_of};
+ghost use Rattle.passes.specs.Texts.{refusal_text};
+
+use std::error::Error;
+use std::fmt;
 
 // Why an input is turned away.
 #[derive(Clone, Copy, Debug, PartialEq)]
@@ -38,3 +42,13 @@ impl Refusal {
         }
     }
 }
+
+impl fmt::Display for Refusal {
+    ghost output = { λ r. Some (refusal_text r) };
+
+    fn fmt<W: fmt::Write>(&self, f: &mut fmt::Formatter<W>) -> fmt::Result {
+        write!(f, "number {} at {}", self.number(), self.place())
+    }
+}
+
+impl Error for Refusal {}
