@@ -1,5 +1,6 @@
 -- Passes as a list of numbers, and which of them are at fault. Assumes nothing: these are definitions.
-use Rattle.std.specs.Prelude.{ℕ, zero, suc, ◌+◌, ◌-◌, ◌*◌, ◌/◌, Bool, cond, ◌&&◌, ◌||◌, List, [], ◌∷◌, length, Some, None, Option, ◌==◌, nat_le, nat_lt, slice_index}
+use Rattle.std.specs.Prelude.{◌≡◌, ℕ, zero, suc, ◌+◌, ◌-◌, ◌*◌, ◌/◌, Bool, cond, ◌&&◌, ◌||◌, true, false, List, [], ◌∷◌, length, Some, None, Option, Result, MatchResult, ◌==◌, nat_le, nat_lt, slice_index}
+use Rattle.passes.specs.declared.model.OutOfRange.{OutOfRange}
 use Rattle.passes.specs.declared.model.Pass.{Pass}
 use Rattle.passes.specs.Checks.{most_passes, in_range}
 
@@ -14,6 +15,10 @@ passes_in (a ∷ (b ∷ (c ∷ (m ∷ xs)))) = record { from = a; to = b; worth 
 -- the four numbers of pass i
 abbrev pub pass_at : List ℕ → ℕ → Pass
 pass_at xs i = record { from = slice_index xs (4 * i); to = slice_index xs (4 * i + 1); worth = slice_index xs (4 * i + 2); marks = slice_index xs (4 * i + 3) }
+
+-- four numbers are taken as the pass that they stand for exactly if that is in range
+abbrev pub ReadAsPass : List ℕ → Result Pass OutOfRange → Type 0
+ReadAsPass xs r = MatchResult r (λ p. (in_range (pass_at xs 0) ≡ true) × (p ≡ pass_at xs 0)) (λ _. in_range (pass_at xs 0) ≡ false)
 
 -- how many passes the numbers begin: one that is cut off at the end counts
 abbrev pub begun : List ℕ → ℕ

@@ -1,6 +1,16 @@
-ghost use Rattle.std.specs.Prelude.{◌≡◌};
+ghost use Rattle.std.specs.Prelude.{◌≡◌, Some, codes};
 ghost use Rattle.passes.specs.Busy.{holds};
 ghost use Rattle.passes.specs.Follow.{may, one_after};
+ghost use Rattle.passes.specs.Numbers.{ReadAsPass};
+
+use std::error::Error;
+use std::fmt;
+
+const MAX_SECOND: u32 = 1_000_000;
+
+const MAX_WORTH: u32 = 1_000_000;
+
+const MAX_MARKS: u32 = 15;
 
 // A satellite's pass over the station: from the second `from` up to but not with the second `to`.
 #[derive(Clone, Copy)]
@@ -17,6 +27,40 @@ pub struct Pass {
 pub struct Station {
     pub dishes: u8,
     pub turn: u32,
+}
+
+// Four numbers that are out of range for a pass.
+#[derive(Clone, Copy, Debug, PartialEq)]
+pub struct OutOfRange;
+
+impl fmt::Display for OutOfRange {
+    ghost output = { λ _. Some (codes "numbers out of range for a pass") };
+
+    fn fmt<W: fmt::Write>(&self, f: &mut fmt::Formatter<W>) -> fmt::Result {
+        f.write_str("numbers out of range for a pass")
+    }
+}
+
+impl Error for OutOfRange {}
+
+// A pass comes as four numbers: from, to, worth, marks.
+impl TryFrom<[u32; 4]> for Pass {
+    type Error = OutOfRange;
+
+    ghost try_from_gives = { ReadAsPass };
+
+    fn try_from(numbers: [u32; 4]) -> Result<Pass, OutOfRange> {
+        let [from, to, worth, marks] = numbers;
+        if from >= to || to > MAX_SECOND || worth > MAX_WORTH || marks > MAX_MARKS {
+            return Err(OutOfRange);
+        }
+        Ok(Pass {
+            from,
+            to,
+            worth,
+            marks: marks as u8,
+        })
+    }
 }
 
 impl Pass {

@@ -1,5 +1,6 @@
-ghost use Rattle.std.specs.Prelude.{◌≡◌, true, false, length, IfOk, MatchOption};
+ghost use Rattle.std.specs.Prelude.{◌≡◌, true, false, length, IfOk, MatchResult};
 ghost use Rattle.std.specs.Result.{result_err};
+ghost use Rattle.passes.specs.declared.refusals.Refusal.TheVariants.{BadPass};
 ghost use Rattle.passes.specs.Nights.{NightOf, passes_of, station_of};
 ghost use Rattle.passes.specs.Numbers.{sound, pass_at};
 ghost use Rattle.passes.specs.Refusals.{station_refused, refused, refused_with_room, room_refused};
@@ -9,12 +10,6 @@ use crate::nights::{MAX_DISHES, MAX_PASSES, Night};
 use crate::refusals::Refusal;
 
 const MAX_TURN: u64 = 100_000;
-
-const MAX_SECOND: u32 = 1_000_000;
-
-const MAX_WORTH: u32 = 1_000_000;
-
-const MAX_MARKS: u32 = 15;
 
 // What stands in a night's room past its last pass.
 const NO_PASS: Pass = Pass {
@@ -34,10 +29,7 @@ impl Night {
         let mut passes = [NO_PASS; MAX_PASSES];
         let count = numbers.len().div_ceil(4);
         for i in 0..count {
-            match sound_pass(numbers, i) {
-                Some(pass) => passes[i] = pass,
-                None => return Err(Refusal::BadPass(i)),
-            }
+            passes[i] = sound_pass(numbers, i)?;
         }
         Ok(Night {
             station,
@@ -104,26 +96,21 @@ fn read_station(dishes: u64, turn: u64) -> Result<Station, Refusal>
 }
 
 // Pass i of a list of numbers, unless it is at fault.
-fn sound_pass(numbers: &[u32], i: usize) -> Option<Pass>
-    ensures { MatchOption result (sound numbers.now i ≡ false) (λ p. (sound numbers.now i ≡ true) × (p ≡ pass_at numbers.now i)) }
+fn sound_pass(numbers: &[u32], i: usize) -> Result<Pass, Refusal>
+    ensures { MatchResult result (λ p. (sound numbers.now i ≡ true) × (p ≡ pass_at numbers.now i)) (λ e. (e ≡ BadPass i) × (sound numbers.now i ≡ false)) }
 {
+    let at_fault = Err(Refusal::BadPass(i));
     if i >= MAX_PASSES || numbers.len() < 4 * i + 4 {
-        return None;
+        return at_fault;
     }
-    let from = numbers[4 * i];
-    let to = numbers[4 * i + 1];
-    let worth = numbers[4 * i + 2];
-    let marks = numbers[4 * i + 3];
-    if from >= to || to > MAX_SECOND || worth > MAX_WORTH || marks > MAX_MARKS {
-        return None;
+    let at = 4 * i;
+    let four = [numbers[at], numbers[at + 1], numbers[at + 2], numbers[at + 3]];
+    let Ok(pass) = Pass::try_from(four) else {
+        return at_fault;
+    };
+    // Kept: neighbours are compared by index over the lent numbers, as a rule of the project has it.
+    if i > 0 && pass.from < numbers[4 * (i - 1)] {
+        return at_fault;
     }
-    if i > 0 && from < numbers[4 * (i - 1)] {
-        return None;
-    }
-    Some(Pass {
-        from,
-        to,
-        worth,
-        marks: marks as u8,
-    })
+    Ok(pass)
 }

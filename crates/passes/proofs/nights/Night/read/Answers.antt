@@ -14,22 +14,25 @@ returns-in_err-station c =
     record { refusal = rw (p.1, p.2, ← told) refl; night = rw p.1 tt }
 
 pub bounds-passes-i : goal.bounds-passes-i
-bounds-passes-i c = (sound_says _ _ c.in-Some.ensures.0).early
+bounds-passes-i c = (sound_says _ _ c.in_ok-passes.ensures.0).early
 
-pub returns-in-None : goal.returns-in-None
+pub returns-in_err-passes : goal.returns-in_err-passes
 unfolding refused list_refused
-returns-in-None c =
-    let first = first_at_fault c.args.numbers.now c.loop-i.i (omega (arith, c.div_ceil-count.ensures)) c.loop-i.invariant.1 c.in-None.ensures in
-    record { refusal = rw (← c.in_ok-station.ensures.refusal, first) refl; night = tt }
+returns-in_err-passes c =
+    let p = err_from_is_err_and c.from_residual-in_err-passes.result c.from_residual-in_err-passes.ensures.1 in
+    let fault = c.in_err-passes.ensures in
+    let first = first_at_fault c.args.numbers.now c.loop-i.i (omega (arith, c.div_ceil-count.ensures)) c.loop-i.invariant.1 fault.1 in
+    record { refusal = rw (p.1, p.2, fault.0, ← c.in_ok-station.ensures.refusal, first) refl; night = rw p.1 tt }
 
 pub loop-i-preserved : goal.loop-i-preserved
 loop-i-preserved c =
-    let within : c.loop-i.i < length c.loop-i.passes = omega (arith, c.loop-i.invariant.0, (sound_says _ _ c.in-Some.ensures.0).early) in (
+    let sound_here = c.in_ok-passes.ensures in
+    let within : c.loop-i.i < length c.loop-i.passes = omega (arith, c.loop-i.invariant.0, (sound_says _ _ sound_here.0).early) in (
       simp length-set c.loop-i.invariant.0,
-      below_more _ _ c.loop-i.invariant.1 c.in-Some.ensures.0,
+      below_more _ _ c.loop-i.invariant.1 sound_here.0,
       below_more _ _
           (λ k h. let ne : k ≢ c.loop-i.i = omega arith in rw get_or-set_other (c.loop-i.invariant.2 k h))
-          (rw get_or-set_same c.in-Some.ensures.1),
+          (rw get_or-set_same sound_here.1),
     )
 
 -- where the loop ends, it has looked at every pass that the numbers begin
