@@ -60,19 +60,10 @@ mod tests {
     #[test]
     fn bad_plans(rt: HostRuntime) {
         let may_not = Fault::MayNotFollow;
-        assert_eq!(rt;
-            judge(2, 0, &MARKED, &[1, 0, 1]),
-            bad(2, may_not)
-        );
+        assert_eq!(rt; judge(2, 0, &MARKED, &[1, 0, 1]), bad(2, may_not));
         // a mark of a dish that isn't there doesn't count
-        assert_eq!(rt;
-            judge(1, 0, &MARKED, &[0, 0, 2]),
-            bad(2, Fault::NoSuchDish)
-        );
-        assert_eq!(rt;
-            judge(1, 0, &MARKED, &[0, 0, 1]),
-            bad(2, may_not)
-        );
+        assert_eq!(rt; judge(1, 0, &MARKED, &[0, 0, 2]), bad(2, Fault::NoSuchDish));
+        assert_eq!(rt; judge(1, 0, &MARKED, &[0, 0, 1]), bad(2, may_not));
         assert_eq!(rt;
             judge(4, 0, &FIVE, &[0, 255, 0, 0, 0]),
             bad(1, Fault::NoSuchDish)
@@ -91,10 +82,7 @@ mod tests {
     #[test]
     fn touching_passes(rt: HostRuntime) {
         assert_eq!(rt; judge(1, 0, &TOUCHING, &[1, 1]), good(10));
-        assert_eq!(rt;
-            judge(1, 1, &TOUCHING, &[1, 1]),
-            bad(0, Fault::TooNear(1))
-        );
+        assert_eq!(rt; judge(1, 1, &TOUCHING, &[1, 1]), bad(0, Fault::TooNear(1)));
         assert_eq!(rt; judge(2, 1, &TOUCHING, &[2, 1]), good(10));
         assert_eq!(rt; judge(1, 1, &TOUCHING, &[0, 1]), good(5));
     }
@@ -163,11 +151,12 @@ mod tests {
     // Forty-nine passes, each of which ends as the next one begins.
     fn chain() -> [u32; 196] {
         let mut numbers = [15; 196];
-        for i in 0..49 {
-            let from = 10 * i as u32;
-            numbers[4 * i] = from;
-            numbers[4 * i + 1] = from + 10;
-            numbers[4 * i + 2] = 1_000_000;
+        for (i, four) in numbers.chunks_exact_mut(4).enumerate() {
+            if let ([from, to, worth, _], Ok(i)) = (four, u32::try_from(i)) {
+                *from = i.saturating_mul(10);
+                *to = from.saturating_add(10);
+                *worth = 1_000_000;
+            }
         }
         numbers
     }
@@ -175,10 +164,7 @@ mod tests {
     #[test]
     fn long_lists(rt: HostRuntime) {
         let mut numbers = chain();
-        assert_eq!(rt;
-            judge(1, 0, &numbers[0..192], &[1; 48]),
-            good(48_000_000)
-        );
+        assert_eq!(rt; judge(1, 0, &numbers[0..192], &[1; 48]), good(48_000_000));
         assert_eq!(rt; judge(1, 0, &numbers, &[1; 49]), Err(Refusal::BadPass(48)));
         // a fault further on doesn't matter, and one further in front does
         assert_eq!(rt;

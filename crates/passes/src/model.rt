@@ -49,6 +49,7 @@ impl TryFrom<[u32; 4]> for Pass {
 
     ghost try_from_gives = { ReadAsPass };
 
+    #[tactic(auto, using(std::proofs::lemmas::Bool::Decides::nat_tests), unfolding(crate::specs::Checks::in_range))]
     fn try_from(numbers: [u32; 4]) -> Result<Pass, OutOfRange> {
         let [from, to, worth, marks] = numbers;
         if from >= to || to > MAX_SECOND || worth > MAX_WORTH || marks > MAX_MARKS {

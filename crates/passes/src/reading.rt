@@ -68,6 +68,7 @@ impl Night {
     }
 
     // Turns a room away that isn't a number for each pass.
+    #[tactic(auto, using(std::proofs::lemmas::Bool::Decides::nat_tests), unfolding(crate::specs::Refusals::room_refused))]
     pub fn check_room(&self, room: usize) -> Result<(), Refusal>
         ensures { result_err result ≡ room_refused (length (passes_of self.now)) room }
     {
@@ -79,6 +80,7 @@ impl Night {
     }
 }
 
+#[tactic(auto, using(std::proofs::lemmas::Bool::Decides::nat_tests), unfolding(crate::specs::Refusals::station_refused, crate::specs::Checks::dishes_ok, crate::specs::Checks::turning_ok))]
 fn read_station(dishes: u64, turn: u64) -> Result<Station, Refusal>
     ensures refusal { result_err result ≡ station_refused dishes turn }
     ensures station { IfOk result (λ s. s ≡ station_of dishes turn) }
@@ -96,6 +98,7 @@ fn read_station(dishes: u64, turn: u64) -> Result<Station, Refusal>
 }
 
 // Pass i of a list of numbers, unless it is at fault.
+#[tactic(auto, using(std::proofs::lemmas::Bool::Decides::nat_tests), unfolding(crate::specs::Numbers::sound, crate::specs::Numbers::in_order))]
 fn sound_pass(numbers: &[u32], i: usize) -> Result<Pass, Refusal>
     ensures { MatchResult result (λ p. (sound numbers.now i ≡ true) × (p ≡ pass_at numbers.now i)) (λ e. (e ≡ BadPass i) × (sound numbers.now i ≡ false)) }
 {
@@ -104,7 +107,12 @@ fn sound_pass(numbers: &[u32], i: usize) -> Result<Pass, Refusal>
         return at_fault;
     }
     let at = 4 * i;
-    let four = [numbers[at], numbers[at + 1], numbers[at + 2], numbers[at + 3]];
+    let four = [
+        numbers[at],
+        numbers[at + 1],
+        numbers[at + 2],
+        numbers[at + 3],
+    ];
     let Ok(pass) = Pass::try_from(four) else {
         return at_fault;
     };
