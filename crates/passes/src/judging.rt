@@ -100,6 +100,7 @@ impl Judged<'_> {
     fn verdict(&self) -> Verdict
         ensures { TrueVerdict self.now.station self.now.passes.now self.now.plan.now result }
     {
+        // Kept: i is the pass's place, which is answered, and any two passes are compared over one array, as a rule of the project has it.
         for i in 0..self.passes.len() {
             if let Some(fault) = self.fault_at(i) {
                 return Err(Flaw { pass: i, fault });
@@ -129,19 +130,10 @@ impl Judged<'_> {
         requires followed { 0 < says self.now.plan.now i }
         ensures { MatchOption result ((j : ℕ) → Clash self.now.station self.now.passes.now self.now.plan.now i j → ⊥) (FirstClash self.now.station self.now.passes.now self.now.plan.now i) }
     {
-        (0..self.passes.len()).find(|j| self.clash(i, *j))
-    }
-
-    // Whether one dish follows both passes, and has no time to turn between them.
-    fn clash(&self, i: usize, j: usize) -> bool
-        requires within { i < length self.now.passes.now }
-        requires other_within { j < length self.now.passes.now }
-        requires followed { 0 < says self.now.plan.now i }
-        ensures { MatchBool result (Clash self.now.station self.now.passes.now self.now.plan.now i j) (Clash self.now.station self.now.passes.now self.now.plan.now i j → ⊥) }
-    {
-        j != i
-            && self.plan[i] == self.plan[j]
-            && !self.passes[i].one_after(self.passes[j], self.station.turn)
+        let (pass, named) = (self.passes[i], self.plan[i]);
+        (0..self.passes.len()).find(|&j| {
+            j != i && self.plan[j] == named && !pass.one_after(self.passes[j], self.station.turn)
+        })
     }
 
     // What the passes that the plan follows are worth together.
@@ -150,6 +142,7 @@ impl Judged<'_> {
     {
         let mut worth = 0;
         for (pass, named) in self.passes.iter().zip(self.plan) {
+            // Kept: 0 is how a plan in bytes, as C lends it, says that a pass is not followed.
             if *named != 0 {
                 worth += pass.worth as u64;
             }

@@ -11,6 +11,7 @@ pub const MAX_DISHES: usize = 4;
 #[derive(Clone, Copy)]
 pub struct Night {
     pub(crate) station: Station,
+    // Kept: an array and how many of it count, since there is no heap and a night is `Copy`.
     pub(crate) count: usize,
     pub(crate) passes: [Pass; MAX_PASSES],
     ghost few: { count ≤ most_passes },

@@ -28,6 +28,7 @@ impl Night {
         let station = read_station(dishes, turn)?;
         let mut passes = [NO_PASS; MAX_PASSES];
         let count = numbers.len().div_ceil(4);
+        // Kept: i is the pass's place, by which its numbers and the pass before it are found and the fault is told.
         for i in 0..count {
             passes[i] = sound_pass(numbers, i)?;
         }
@@ -80,6 +81,7 @@ impl Night {
     }
 }
 
+// Kept: no `TryFrom`, since a pair of numbers would not say which of them is the time to turn.
 #[tactic(auto, using(std::proofs::lemmas::Bool::Decides::nat_tests), unfolding(crate::specs::Refusals::station_refused, crate::specs::Checks::dishes_ok, crate::specs::Checks::turning_ok))]
 fn read_station(dishes: u64, turn: u64) -> Result<Station, Refusal>
     ensures refusal { result_err result ≡ station_refused dishes turn }

@@ -19,7 +19,7 @@ pub enum Refusal {
 }
 
 impl Refusal {
-    // The number by which users know it.
+    // The number by which users know it. Kept: the planning entry, which C is to call, answers this number.
     pub fn number(self) -> u64
         ensures { result ≡ number_of self }
     {
@@ -30,7 +30,7 @@ impl Refusal {
         }
     }
 
-    // Where the fault is, counted from 0.
+    // Where the fault is, counted from 0. Kept: no `From`, since number and place are both whole numbers.
     pub fn place(self) -> usize
         ensures { result ≡ place_of self }
     {
