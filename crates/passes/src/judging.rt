@@ -142,7 +142,7 @@ impl Judged<'_> {
     {
         let mut worth = 0;
         for (pass, named) in self.passes.iter().zip(self.plan) {
-            // Kept: 0 is how a plan in bytes, as C lends it, says that a pass is not followed.
+            // Kept: plans are lent as bytes, and 0 is what such a byte says for "not followed".
             if *named != 0 {
                 worth += pass.worth as u64;
             }
