@@ -3,8 +3,8 @@
 #![tactic(auto)]
 
 use capacity::{Assignment, Peak, assign_all, busiest, plan_one_dish};
-use passes::{Fault, Night, Refusal, Verdict, judge};
-use std::io;
+use passes::{Night, judge};
+use std::{fmt, io};
 
 // Five passes that any dish may follow: from, to, worth, marks.
 const FIVE: [[u32; 4]; 5] = [
@@ -18,102 +18,114 @@ const FIVE: [[u32; 4]; 5] = [
 // The first three of them, with marks of dishes 0, 0 and 1.
 const MARKED: [[u32; 4]; 3] = [[0, 10, 5, 1], [5, 15, 9, 1], [12, 20, 6, 2]];
 
-// Prints a plan and what is said of it, on one line.
-fn report(
-    rt: &HostRuntime,
+// A station, and passes over it as four numbers each.
+#[derive(Clone, Copy)]
+struct Case<'a> {
     dishes: u64,
     turn: u64,
-    passes: &[[u32; 4]],
-    plan: &[u8],
-) -> io::Result<()> {
-    let numbers = passes.concat(rt.alloc())?;
-    print!(rt; "dishes {dishes} turn {turn} plan")?;
-    print_plan(rt, plan)?;
-    match judge(dishes, turn, numbers.as_slice(), plan) {
-        Ok(Verdict::Good(worth)) => println!(rt; ": good, worth {worth}"),
-        Ok(Verdict::Bad(pass, fault)) => report_fault(rt, pass, fault),
-        Err(refusal) => report_refusal(rt, refusal),
+    passes: &'a [[u32; 4]],
+}
+
+impl fmt::Display for Case<'_> {
+    fn fmt<W: fmt::Write>(&self, f: &mut fmt::Formatter<W>) -> fmt::Result {
+        write!(f, "dishes {} turn {}", self.dishes, self.turn)
     }
 }
 
-fn print_plan(rt: &HostRuntime, plan: &[u8]) -> io::Result<()> {
-    for named in plan {
-        print!(rt; " {named}")?;
-    }
-    Ok(())
-}
-
-fn report_fault(rt: &HostRuntime, pass: usize, fault: Fault) -> io::Result<()> {
-    match fault {
-        Fault::NoSuchDish => println!(rt; ": not good, pass {pass}: no such dish"),
-        Fault::MayNotFollow => println!(rt; ": not good, pass {pass}: the dish may not follow it"),
-        Fault::TooNear(other) => println!(rt; ": not good, pass {pass}: too near to pass {other}"),
-    }
-}
-
-fn report_refusal(rt: &HostRuntime, refusal: Refusal) -> io::Result<()> {
-    let number = refusal.number();
-    let place = refusal.place();
-    println!(rt; ": turned away, number {number} at {place}")
-}
-
-// Prints a best plan for one dish, and what it is worth.
-fn report_one_dish(rt: &HostRuntime, turn: u64, passes: &[[u32; 4]]) -> io::Result<()> {
-    let numbers = passes.concat(rt.alloc())?;
-    let mut room = vec![in rt.alloc(); 0; passes.len()]?;
-    print!(rt; "dishes 1 turn {turn}")?;
-    match plan_one_dish(turn, numbers.as_slice(), room.as_mut_slice()) {
-        Ok(worth) => {
-            print!(rt; ": worth {worth} by plan")?;
-            print_plan(rt, room.as_slice())?;
-            println!(rt)
+impl Case<'_> {
+    // Prints a plan and what is said of it, on one line.
+    fn report(&self, rt: &HostRuntime, plan: &[u8]) -> io::Result<()> {
+        let numbers = self.passes.concat(rt.alloc())?;
+        print!(rt; "{self} {}", Plan(plan))?;
+        match judge(self.dishes, self.turn, numbers.as_slice(), plan) {
+            Ok(Ok(worth)) => println!(rt; ": good, worth {worth}"),
+            Ok(Err(flaw)) => println!(rt; ": not good, {flaw}"),
+            Err(refusal) => println!(rt; ": turned away, {refusal}"),
         }
-        Err(refusal) => report_refusal(rt, refusal),
+    }
+
+    // Prints a best plan for one dish, and what it is worth.
+    fn report_one_dish(&self, rt: &HostRuntime) -> io::Result<()> {
+        let numbers = self.passes.concat(rt.alloc())?;
+        let mut room = vec![in rt.alloc(); 0; self.passes.len()]?;
+        match plan_one_dish(self.turn, numbers.as_slice(), room.as_mut_slice()) {
+            Ok(worth) => println!(rt; "{self}: worth {worth} by {}", Plan(room.as_slice())),
+            Err(refusal) => println!(rt; "{self}: turned away, {refusal}"),
+        }
+    }
+
+    // Prints the busiest second, and a plan that follows all the passes or why there is none.
+    fn report_capacity(&self, rt: &HostRuntime) -> io::Result<()> {
+        let numbers = self.passes.concat(rt.alloc())?;
+        let mut room = vec![in rt.alloc(); 0; self.passes.len()]?;
+        match Night::read(self.dishes, self.turn, numbers.as_slice()) {
+            Ok(night) => {
+                print!(rt; "{self}: ")?;
+                report_night(rt, &night, room.as_mut_slice())
+            }
+            Err(refusal) => println!(rt; "{self}: turned away, {refusal}"),
+        }
     }
 }
 
-// Prints the busiest second of a list, and a plan that follows all its passes or why there is none.
-fn report_capacity(
-    rt: &HostRuntime,
-    dishes: u64,
-    turn: u64,
-    passes: &[[u32; 4]],
-) -> io::Result<()> {
-    let numbers = passes.concat(rt.alloc())?;
-    let mut room = vec![in rt.alloc(); 0; passes.len()]?;
-    print!(rt; "dishes {dishes} turn {turn}")?;
-    let night = match Night::read(dishes, turn, numbers.as_slice()) {
-        Ok(night) => night,
-        Err(refusal) => return report_refusal(rt, refusal),
-    };
+// Prints the rest of that line, for a night that was read and a room for its plan.
+fn report_night(rt: &HostRuntime, night: &Night, room: &mut [u8]) -> io::Result<()> {
     let Peak { second, count } = busiest(night.passes(), night.station().turn);
-    print!(rt; ": busiest second {second} with {count} passes")?;
-    match assign_all(&night, room.as_mut_slice()) {
-        Ok(Assignment::AllFollowed) => {
-            print!(rt; ", all followed by plan")?;
-            print_plan(rt, room.as_slice())?;
-            println!(rt)
+    print!(rt; "busiest second {second} with {count} passes, ")?;
+    match assign_all(night, room) {
+        Ok(Assignment::AllFollowed) => println!(rt; "all followed by {}", Plan(room)),
+        Ok(Assignment::TooMany(second)) => println!(rt; "too many in second {second}"),
+        Ok(Assignment::NotOpen(pass)) => println!(rt; "not every dish may follow pass {pass}"),
+        Err(refusal) => println!(rt; "turned away, {refusal}"),
+    }
+}
+
+// A plan, as it is printed.
+#[derive(Clone, Copy)]
+struct Plan<'a>(&'a [u8]);
+
+impl fmt::Display for Plan<'_> {
+    fn fmt<W: fmt::Write>(&self, f: &mut fmt::Formatter<W>) -> fmt::Result {
+        write!(f, "plan")?;
+        for named in self.0 {
+            write!(f, " {named}")?;
         }
-        Ok(Assignment::TooMany(second)) => println!(rt; ", too many in second {second}"),
-        Ok(Assignment::NotOpen(pass)) => println!(rt; ", not every dish may follow pass {pass}"),
-        Err(refusal) => report_refusal(rt, refusal),
+        Ok(())
+    }
+}
+
+// The five passes over a station.
+fn five(dishes: u64, turn: u64) -> Case<'static> {
+    Case {
+        dishes,
+        turn,
+        passes: &FIVE,
+    }
+}
+
+// The marked ones.
+fn marked(dishes: u64, turn: u64) -> Case<'static> {
+    Case {
+        dishes,
+        turn,
+        passes: &MARKED,
     }
 }
 
 fn main(rt: HostRuntime) -> io::Result<()> {
-    report(&rt, 1, 0, &FIVE, &[1, 0, 1, 0, 1])?;
-    report(&rt, 1, 3, &FIVE, &[0, 1, 0, 0, 1])?;
-    report(&rt, 2, 0, &FIVE, &[2, 1, 2, 1, 2])?;
-    report(&rt, 2, 3, &FIVE, &[2, 1, 0, 2, 1])?;
-    report(&rt, 2, 0, &MARKED, &[0, 1, 2])?;
-    report(&rt, 2, 0, &MARKED, &[1, 0, 1])?;
-    report(&rt, 1, 3, &FIVE, &[1, 0, 1, 0, 1])?;
-    report(&rt, 1, 0, &MARKED, &[0, 1, 2])?;
-    report(&rt, 5, 0, &FIVE, &[1, 0, 1, 0, 1])?;
-    report(&rt, 1, 0, &FIVE, &[1, 0, 1])?;
-    report_one_dish(&rt, 0, &FIVE)?;
-    report_one_dish(&rt, 3, &FIVE)?;
-    report_capacity(&rt, 2, 0, &FIVE)?;
-    report_capacity(&rt, 2, 3, &FIVE)?;
-    report_capacity(&rt, 2, 0, &MARKED)
+    five(1, 0).report(&rt, &[1, 0, 1, 0, 1])?;
+    five(1, 3).report(&rt, &[0, 1, 0, 0, 1])?;
+    five(2, 0).report(&rt, &[2, 1, 2, 1, 2])?;
+    five(2, 3).report(&rt, &[2, 1, 0, 2, 1])?;
+    marked(2, 0).report(&rt, &[0, 1, 2])?;
+    marked(2, 0).report(&rt, &[1, 0, 1])?;
+    five(1, 3).report(&rt, &[1, 0, 1, 0, 1])?;
+    marked(1, 0).report(&rt, &[0, 1, 2])?;
+    five(5, 0).report(&rt, &[1, 0, 1, 0, 1])?;
+    five(1, 0).report(&rt, &[1, 0, 1])?;
+    five(1, 0).report_one_dish(&rt)?;
+    five(1, 3).report_one_dish(&rt)?;
+    five(2, 0).report_capacity(&rt)?;
+    five(2, 3).report_capacity(&rt)?;
+    marked(2, 0).report_capacity(&rt)
 }
