@@ -1,11 +1,7 @@
-use Rattle.std.proofs.Common.{eqb, sym, ap, ◌∙◌, arith}
-use Rattle.std.proofs.lemmas.Nat.{and_mask}
+use Rattle.std.proofs.Common.{sym, ◌∙◌, arith}
 use Rattle.std.proofs.lemmas.Bool.{le-ltb}
 use Rattle.passes.proofs.Marks.{none_past_8}
 use Rattle.passes.proofs.model.Pass.may_be_followed_by.Goals as goal
-
-pub returns-then-dish-lt8 : goal.returns-then-dish-lt8
-returns-then-dish-lt8 c = ap (λ n. eqb n 1) (and_mask _ 1)
 
 pub returns-else-dish-lt8 : goal.returns-else-dish-lt8
 returns-else-dish-lt8 c =

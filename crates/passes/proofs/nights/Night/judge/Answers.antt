@@ -1,5 +1,4 @@
-use Rattle.std.proofs.Common.{length, sym, ap, subst, arith}
-use Rattle.passes.specs.Verdicts.{TrueVerdict}
+use Rattle.std.proofs.Common.{length, sym, ap, arith}
 use Rattle.passes.proofs.Checking.{checked_says}
 use Rattle.passes.proofs.Taking.{room_ok}
 use Rattle.passes.proofs.nights.Night.judge.Goals as goal
@@ -9,9 +8,3 @@ invariant_of-judged c =
     let same = ap length c.passes.ensures in
     let few = (checked_says _ _ c.args.self.now.ok).few in
     record { few = omega (arith, same); one_each = omega (arith, same, room_ok _ _ (sym c.in_ok-check_room.ensures)) }
-
-pub returns : goal.returns
-returns c = record {
-  refusal = c.in_ok-check_room.ensures;
-  verdict = subst (λ ps. TrueVerdict c.args.self.now.station ps c.args.plan.now c.verdict.result) c.passes.ensures c.verdict.ensures;
-}
