@@ -7,7 +7,7 @@ mod counting;
 mod laws;
 
 pub use alone::{fill_table, follow_table, plan_one_dish};
-pub use assigning::{Assignment, assign_all};
+pub use assigning::{Unassigned, assign_all};
 pub use counting::{Peak, busiest};
 pub use laws::all_followed_stands;
 
@@ -146,57 +146,54 @@ mod tests {
             Err(Refusal::BadRoom(5))
         );
         let night = Night::read(2, 0, &MARKED)?;
-        assert_eq!(rt; assign_all(&night, &mut room), Err(Refusal::BadRoom(5)));
+        assert_eq!(rt;
+            assign_all(&night, &mut room),
+            Err(Unassigned::TurnedAway(Refusal::BadRoom(5)))
+        );
         assert_eq!(rt; room, [9; 5]);
         Ok(())
     }
 
     // What comes of giving dishes to five passes, and the room.
-    fn assign_five(dishes: u64, turn: u64) -> Result<(Assignment, [u8; 5]), Refusal> {
+    fn assign_five(dishes: u64, turn: u64) -> Result<(Result<(), Unassigned>, [u8; 5]), Refusal> {
         let night = Night::read(dishes, turn, &five())?;
         let mut room = [9; 5];
-        let assignment = assign_all(&night, &mut room)?;
-        Ok((assignment, room))
+        let assigned = assign_all(&night, &mut room);
+        Ok((assigned, room))
     }
 
     #[test]
     fn all_dishes(rt: HostRuntime) -> Result<(), Fail> {
-        assert_eq!(rt;
-            assign_five(2, 0),
-            Ok((Assignment::AllFollowed, [1, 2, 1, 2, 1]))
-        );
-        assert_eq!(rt;
-            assign_five(3, 3),
-            Ok((Assignment::AllFollowed, [1, 2, 3, 1, 2]))
-        );
+        assert_eq!(rt; assign_five(2, 0), Ok((Ok(()), [1, 2, 1, 2, 1])));
+        assert_eq!(rt; assign_five(3, 3), Ok((Ok(()), [1, 2, 3, 1, 2])));
         // too many only with the turning
-        assert_eq!(rt; assign_five(2, 3), Ok((Assignment::TooMany(12), [9; 5])));
-        assert_eq!(rt; assign_five(1, 0), Ok((Assignment::TooMany(5), [9; 5])));
+        assert_eq!(rt;
+            assign_five(2, 3),
+            Ok((Err(Unassigned::TooMany(12)), [9; 5]))
+        );
+        assert_eq!(rt;
+            assign_five(1, 0),
+            Ok((Err(Unassigned::TooMany(5)), [9; 5]))
+        );
         let mut room = [9; 3];
         // a plan that gives dishes as they come would let the last pass go
         assert_eq!(rt;
             assign_all(&Night::read(2, 0, &MARKED)?, &mut room),
-            Ok(Assignment::NotOpen(0))
+            Err(Unassigned::NotOpen(0))
         );
         assert_eq!(rt;
             assign_all(&Night::read(1, 0, &MARKED)?, &mut room),
-            Ok(Assignment::NotOpen(2))
+            Err(Unassigned::NotOpen(2))
         );
         assert_eq!(rt; room, [9; 3]);
-        assert_eq!(rt;
-            assign_all(&Night::read(1, 0, &[])?, &mut []),
-            Ok(Assignment::AllFollowed)
-        );
+        assign_all(&Night::read(1, 0, &[])?, &mut [])?;
         let mut room = [9; 1];
-        assert_eq!(rt;
-            assign_all(&Night::read(1, 0, &[7, 9, 4, 1])?, &mut room),
-            Ok(Assignment::AllFollowed)
-        );
+        assign_all(&Night::read(1, 0, &[7, 9, 4, 1])?, &mut room)?;
         assert_eq!(rt; room, [1]);
         let mut room = [9; 48];
         assert_eq!(rt;
             assign_all(&Night::read(4, 0, &equal())?, &mut room),
-            Ok(Assignment::TooMany(0))
+            Err(Unassigned::TooMany(0))
         );
         Ok(())
     }

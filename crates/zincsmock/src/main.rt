@@ -2,7 +2,7 @@
 // followed.
 #![tactic(auto)]
 
-use capacity::{Assignment, Peak, assign_all, busiest, plan_one_dish};
+use capacity::{Peak, Unassigned, assign_all, busiest, plan_one_dish};
 use passes::{Fault, Night, Refusal, Verdict, judge};
 use std::io;
 
@@ -89,14 +89,14 @@ fn report_capacity(
     let Peak { second, count } = busiest(night.passes(), night.station().turn);
     print!(rt; ": busiest second {second} with {count} passes")?;
     match assign_all(&night, room.as_mut_slice()) {
-        Ok(Assignment::AllFollowed) => {
+        Ok(()) => {
             print!(rt; ", all followed by plan")?;
             print_plan(rt, room.as_slice())?;
             println!(rt)
         }
-        Ok(Assignment::TooMany(second)) => println!(rt; ", too many in second {second}"),
-        Ok(Assignment::NotOpen(pass)) => println!(rt; ", not every dish may follow pass {pass}"),
-        Err(refusal) => report_refusal(rt, refusal),
+        Err(Unassigned::TooMany(second)) => println!(rt; ", too many in second {second}"),
+        Err(Unassigned::NotOpen(pass)) => println!(rt; ", not every dish may follow pass {pass}"),
+        Err(Unassigned::TurnedAway(refusal)) => report_refusal(rt, refusal),
     }
 }
 
