@@ -6,7 +6,7 @@ mod assigning;
 mod counting;
 mod laws;
 
-pub use alone::{fill_table, follow_table, plan_one_dish};
+pub use alone::{OneDish, plan_one_dish};
 pub use assigning::{Unassigned, assign_all};
 pub use counting::{Peak, busiest};
 pub use laws::all_followed_stands;
