@@ -5,6 +5,7 @@ ghost use Rattle.capacity.specs.Peaks.{Busiest};
 
 use passes::Pass;
 use std::cmp::Reverse;
+use std::iter::once;
 
 // The first second in which most passes hold a dish, and how many do.
 #[derive(Clone, Copy, Debug, PartialEq)]
@@ -17,24 +18,14 @@ pub struct Peak {
 pub fn busiest(passes: &[Pass], turn: u32) -> Peak
     ensures { Busiest turn passes.now result.second result.count }
 {
-    let mut peak = peak_at(passes, 0, turn);
-    for pass in passes {
-        let here = peak_at(passes, pass.from, turn);
-        if (here.count, Reverse(here.second)) > (peak.count, Reverse(peak.second)) {
-            peak = here;
-        }
-    }
-    peak
-}
-
-// This second, and how many passes hold a dish in it.
-fn peak_at(passes: &[Pass], second: u32, turn: u32) -> Peak
-    ensures { result ≡ record { second = second; count = busy turn passes.now second } }
-{
-    Peak {
-        second,
-        count: busy_at(passes, second, turn),
-    }
+    once(0)
+        .chain(passes.iter().map(|pass| pass.from))
+        .map(|second| Peak {
+            second,
+            count: busy_at(passes, second, turn),
+        })
+        .max_by_key(|peak| (peak.count, Reverse(peak.second)))
+        .unwrap()
 }
 
 // How many passes hold a dish in this second.
