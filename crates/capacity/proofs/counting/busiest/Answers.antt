@@ -1,9 +1,7 @@
-use Rattle.std.proofs.Common.{◌≡◌, ℕ, ◌<◌, ◌≤◌, ◌⊎◌, List, ◌∷◌, map, length, All, Contains, arith, rules, tests}
+use Rattle.std.proofs.Common.{◌≡◌, ℕ, ◌<◌, length, rules, tests}
 use Rattle.std.proofs.iter.runs.Made.{chains}
-use Rattle.passes.specs.declared.model.Pass.{Pass}
 use Rattle.passes.specs.Busy.{busy}
 use Rattle.passes.specs.Rule.{nth}
-use Rattle.capacity.specs.declared.counting.Peak.{Peak}
 use Rattle.capacity.proofs.Begins.{Behind, busiest_from}
 use Rattle.capacity.proofs.counting.busiest.Goals as goal
 
