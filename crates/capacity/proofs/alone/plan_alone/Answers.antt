@@ -1,4 +1,4 @@
-use Rattle.std.proofs.Common.{◌+◌, length, refl, ap, ◌∙◌, arith}
+use Rattle.std.proofs.Common.{length, refl, ap, ◌∙◌, arith}
 use Rattle.std.proofs.lemmas.List.{length-take-le}
 use Rattle.passes.proofs.Checking.{checked_says}
 use Rattle.capacity.proofs.Singles.{planned_alone, worth_each, worths_fit}
@@ -19,12 +19,6 @@ fill_table-requires c =
       one_more = length-take-le _ c.args.table.now (omega arith);
     }
 
-pub follow_table-requires : goal.follow_table-requires
-follow_table-requires c =
-    let few = (checked_says _ _ c.args.night.now.ok).few in
-    let long = ap length c.passes-passes.ensures in
-    let entries = length-take-le (length c.passes-passes.result.now + 1) c.args.table.now (omega arith) in
-    record { one_more = omega arith; one_each = omega arith; a_byte = omega arith }
 
 pub returns : goal.returns
 returns c =

@@ -12,10 +12,6 @@ use Rattle.capacity.proofs.Greedy.{all_zero}
 use Rattle.capacity.proofs.Timing.{in_time_from_checked, few_dishes_from_checked}
 use Rattle.capacity.proofs.assigning.assign_all.Goals as goal
 
-pub slice_bounds-numbers-end : goal.slice_bounds-numbers-end
-slice_bounds-numbers-end c =
-    let few = (checked_says _ _ c.args.night.now.ok).few in
-    omega (arith, ap length c.passes-passes.ensures)
 
 pub give_dishes-requires : goal.give_dishes-requires
 give_dishes-requires c =
@@ -37,12 +33,3 @@ copy_from_slice-requires c =
     let followed : FollowsAll c.station-station.result c.passes-passes.result.now c.give_dishes.new.plan = search (rules, MatchResult-at_ok) in
     let plan = (fits_says _ _ _ followed.good).one_each in
     omega (arith, ap length c.passes-passes.ensures)
-
-pub returns : goal.returns
-returns c =
-    let followed : FollowsAll c.station-station.result c.passes-passes.result.now c.give_dishes.new.plan = search rules in
-    record {
-      refusal = c.in_ok-check_room.ensures;
-      assigned = rw (c.copy_from_slice.ensures.after, ← c.passes-passes.ensures, ← c.station-station.ensures) (c.in_default.ensures, followed);
-      err = tt;
-    }

@@ -1,14 +1,11 @@
-use Rattle.std.proofs.Common.{◌≡◌, length, Some, None, refl, ◌∙◌, add-one, arith, length-set}
+use Rattle.std.proofs.Common.{◌≡◌, length, Some, None, ◌∙◌, add-one, arith, length-set}
 use Rattle.std.proofs.lemmas.List.{length-take, get_or-take}
 use Rattle.std.proofs.lemmas.Option.{MatchOption-at_some, MatchOption-at_none}
 use Rattle.std.proofs.lemmas.Result.{err_from_is_err_and}
 use Rattle.passes.specs.Rule.{nth}
-use Rattle.capacity.proofs.Giving.{none_given, all_given, too_many, give_one}
-use Rattle.capacity.proofs.Greedy.{all_zero}
+use Rattle.capacity.proofs.Giving.{all_given, too_many, give_one}
 use Rattle.capacity.proofs.assigning.give_dishes.Goals as goal
 
-pub loop-i-init : goal.loop-i-init
-loop-i-init c = (refl, none_given _ _ _ _ c.requires.one_each c.requires.empty (all_zero 4))
 
 pub returns-in_err-dish : goal.returns-in_err-dish
 returns-in_err-dish c =
