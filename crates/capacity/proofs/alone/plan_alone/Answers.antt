@@ -19,7 +19,6 @@ fill_table-requires c =
       one_more = length-take-le _ c.args.table.now (omega arith);
     }
 
-
 pub returns : goal.returns
 returns c =
     let passes = c.passes-passes.result.now in

@@ -12,7 +12,6 @@ use Rattle.capacity.proofs.Greedy.{all_zero}
 use Rattle.capacity.proofs.Timing.{in_time_from_checked, few_dishes_from_checked}
 use Rattle.capacity.proofs.assigning.assign_all.Goals as goal
 
-
 pub give_dishes-requires : goal.give_dishes-requires
 give_dishes-requires c =
     let same = c.passes-passes.ensures in

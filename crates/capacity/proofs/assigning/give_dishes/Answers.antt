@@ -6,7 +6,6 @@ use Rattle.passes.specs.Rule.{nth}
 use Rattle.capacity.proofs.Giving.{all_given, too_many, give_one}
 use Rattle.capacity.proofs.assigning.give_dishes.Goals as goal
 
-
 pub returns-in_err-dish : goal.returns-in_err-dish
 returns-in_err-dish c =
     let p = err_from_is_err_and c.from_residual.result c.from_residual.ensures.1 in
