@@ -72,7 +72,7 @@ impl<'a> OneDish<'a> {
         requires a_gain_each { length gains.now ≡ length self.now.passes.now }
         requires sum_fits { sum gains.now < 2 ^ 64 }
         requires one_more { length table.old ≡ length self.now.passes.now + 1 }
-        ensures { RightFrom 0 self.now.station self.now.dish self.now.passes.now gains.now table.new }
+        ensures { let one = self.now in RightFrom 0 one.station one.dish one.passes.now gains.now table.new }
     {
         table[self.passes.len()] = 0;
         for (i, pass) in self.passes.iter().enumerate().rev() {
@@ -91,7 +91,7 @@ impl<'a> OneDish<'a> {
         requires one_more { length table.now ≡ length self.now.passes.now + 1 }
         requires one_each { length room.old ≡ length self.now.passes.now }
         requires a_byte { self.now.dish < 255 }
-        ensures { (gs : List ℕ) → length gs ≡ length self.now.passes.now → RightFrom 0 self.now.station self.now.dish self.now.passes.now gs table.now → BestAlone self.now.station self.now.dish self.now.passes.now gs room.new }
+        ensures { let one = self.now in (gs : List ℕ) → length gs ≡ length one.passes.now → RightFrom 0 one.station one.dish one.passes.now gs table.now → BestAlone one.station one.dish one.passes.now gs room.new }
     {
         let mut next = 0;
         for (i, pass) in self.passes.iter().enumerate() {
