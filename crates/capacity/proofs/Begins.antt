@@ -1,17 +1,18 @@
 -- Why it is enough to look at begins for the second in which most passes hold a dish. Assumes nothing.
-use Rattle.std.proofs.Common.{◌≡◌, ℕ, suc, ◌+◌, ◌<◌, ◌≤◌, true, false, cond, ◌⊎◌, List, [], ◌∷◌, length, drop, refl, inl, inr, ⊎_elim, arith}
-use Rattle.std.proofs.lemmas.List.{drop_more}
+use Rattle.std.proofs.Common.{◌≡◌, ℕ, suc, ◌<◌, ◌≤◌, true, false, cond, ◌⊎◌, List, [], ◌∷◌, length, count_by, sym, refl, inl, inr, ⊎_elim, arith}
+use Rattle.std.proofs.lemmas.List.Sums.{sum_by-cons}
 use Rattle.std.proofs.lemmas.Bool.{cases_Bool, cases_lt}
 use Rattle.std.proofs.lemmas.Bool.Decides.{nat_tests}
 use Rattle.passes.specs.declared.model.Pass.{Pass}
 use Rattle.passes.specs.Busy.{holds, busy}
-use Rattle.passes.specs.Rule.{no_pass, nth}
+use Rattle.passes.specs.Rule.{nth}
 use Rattle.capacity.specs.Peaks.{Busiest}
 
--- the count of what is left, one pass on
-pub busy_more : (t : ℕ) (ps : List Pass) (x i : ℕ) → i < length ps → busy t (drop i ps) x ≡ cond (holds t (nth ps i) x) 1 0 + busy t (drop (i + 1) ps) x
+-- the number of passes that hold a dish, as a count
+pub busy-count : (t : ℕ) (ps : List Pass) (x : ℕ) → busy t ps x ≡ count_by (λ p. holds t p x) ps
 unfolding busy
-busy_more t ps x i l = rw (drop_more ps i no_pass) refl
+busy-count t [] x = refl
+busy-count t (p ∷ ps) x = rw (busy-count t ps x) (sym (sum_by-cons (λ q. cond (holds t q x) 1 0) p ps))
 
 module _ (t : ℕ) where
   -- pass j begins by y, and from then until y no fewer passes hold a dish than in y

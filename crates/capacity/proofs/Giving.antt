@@ -10,7 +10,7 @@ use Rattle.passes.specs.Rule.{nth, says, GoodPlan}
 use Rattle.passes.proofs.Goodness.{fits_from}
 use Rattle.capacity.specs.Assignments.{FirstOverfull, FollowsAll}
 use Rattle.capacity.specs.Order.{InTime}
-use Rattle.capacity.proofs.Greedy.{none_followed, says_new, enough_dishes, one_more, none_free}
+use Rattle.capacity.proofs.Greedy.{says_new, enough_dishes, one_more, none_free}
 
 -- a plan that follows the first i passes and no others; each dish is free from the second in which it has turned from all that it follows
 pub record Given (s : Station) (ps : List Pass) (free : List ℕ) (ds : Plan) (i : ℕ) : Type 0 where
@@ -19,16 +19,6 @@ pub record Given (s : Station) (ps : List Pass) (free : List ℕ) (ds : Plan) (i
   pub rest : (j : ℕ) → i ≤ j → says ds j ≡ 0
   pub turned : (j d : ℕ) → says ds j ≡ suc d → (nth ps j).to + s.turn ≤ get_or free d 0
   pub until : (d : ℕ) → 0 < get_or free d 0 → (j : ℕ) × (says ds j ≡ suc d) × (get_or free d 0 ≡ (nth ps j).to + s.turn)
-
--- at first each dish is free from second 0
-pub none_given : (s : Station) (ps : List Pass) (free : List ℕ) (ds : Plan) → length ds ≡ length ps → ((i : ℕ) → says ds i ≡ 0) → ((d : ℕ) → get_or free d 0 ≡ 0) → Given s ps free ds 0
-none_given s ps free ds one_each none unused = record {
-  good = none_followed s ps ds one_each none;
-  done = λ j l. absurd (omega arith);
-  rest = λ j l. none j;
-  turned = λ j d gives. absurd (omega (arith, none j));
-  until = λ d more. absurd (omega (arith, unused d));
-}
 
 -- at last all passes are followed
 pub all_given : (s : Station) (ps : List Pass) (free : List ℕ) (ds : Plan) → Given s ps free ds (length ps) → FollowsAll s ps ds

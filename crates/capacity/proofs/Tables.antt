@@ -1,6 +1,7 @@
 -- The table of what one dish can gain from each pass on. Assumes nothing.
-use Rattle.std.proofs.Common.{◌≡◌, ℕ, suc, ◌+◌, ◌-◌, ◌<◌, ◌≤◌, max, true, false, ◌≢◌, List, [], ◌∷◌, ◌++◌, length, get_or, drop, set, replicate, sum, sym, refl, ap, ◌∙◌, subst, ⊎_elim, arith}
-use Rattle.std.proofs.lemmas.List.{drop_all, drop-drop, drop_more, get_or-drop, get_or-set_other, get_or-set_same, length-drop}
+use Rattle.std.proofs.Common.{◌≡◌, ℕ, suc, ◌+◌, ◌-◌, ◌<◌, ◌≤◌, max, true, false, ◌≢◌, List, [], ◌∷◌, ◌++◌, length, get_or, drop, set, replicate, sum, sym, refl, ap, ◌∙◌, subst, ⊎_elim, add-zero, arith}
+use Rattle.std.specs.List.{push}
+use Rattle.std.proofs.lemmas.List.{append_assoc, length-append, get_or-append-add, drop_all, drop-drop, drop_more, get_or-drop, get_or-set_other, get_or-set_same, length-drop}
 use Rattle.std.proofs.lemmas.List.Sums.{sum_by-drop_more, sum_by-take-drop}
 use Rattle.std.proofs.lemmas.Bool.{and_from, and_parts, both_ways, cases_eq, cases_lt, lt-ltb}
 use Rattle.std.proofs.lemmas.Bool.Decides.{nat_tests}
@@ -96,6 +97,17 @@ module _ (s : Station) (d : ℕ) where
               subst (λ x. gain_of d (g ∷ gs) (x ∷ es) ≤ max b (g + c)) (sym same) (omega (arith, later.2)))
               (λ other. let most = other_bound e es other good in omega arith)
               (cases_eq e (suc d))
+
+-- where those that are left stand before those that were seen, and p is the last of those that are left, p is the element i that follows the
+-- others
+pub last_left : {X : Type 0} (xs left less seen : List X) (p : X) (i : ℕ) → left ++ seen ≡ xs → left ≡ push less p → i ≡ length less → (less ++ (p ∷ seen) ≡ xs) × (length left ≡ i + 1) × (i < length xs) × ((d : X) → get_or xs i d ≡ p)
+last_left xs left less seen p i all more here =
+    let on : less ++ (p ∷ seen) ≡ xs = sym (append_assoc less (p ∷ []) seen) ∙ rw (sym more) all in (
+      on,
+      omega (arith, ap length more, length-append less (p ∷ [])),
+      omega (arith, sym (ap length on), length-append less (p ∷ seen)),
+      λ d. rw (here, ← on) (rw add-zero at (get_or-append-add less (p ∷ seen) 0 d)),
+    )
 
 -- one pass and those from a later one on gain no more than all
 pub sum_later : (gs : List ℕ) (i next : ℕ) → i < length gs → i < next → get_or gs i 0 + sum (drop next gs) ≤ sum gs

@@ -1,13 +1,14 @@
 -- Dishes given to passes that all of them may follow. Assumes nothing: these are definitions.
-use Rattle.std.specs.Prelude.{◌≡◌, ℕ, ◌<◌, ◌≤◌, true, false, List, length, slice_index, slice_index_or}
+use Rattle.std.specs.Prelude.{◌≡◌, ℕ, ◌<◌, ◌≤◌, true, false, List, length, Some, None, Option, Ok, Err, Result, ⊤, slice_index, slice_index_or}
 use Rattle.passes.specs.declared.model.Pass.{Pass}
 use Rattle.passes.specs.declared.model.Station.{Station}
+use Rattle.passes.specs.declared.refusals.Refusal.{Refusal}
 use Rattle.passes.specs.Busy.{busy}
 use Rattle.passes.specs.Follow.{may}
 use Rattle.passes.specs.Plans.{Plan, fits}
 use Rattle.passes.specs.Rule.{nth, says}
-use Rattle.capacity.specs.declared.assigning.Assignment.{Assignment}
-use Rattle.capacity.specs.declared.assigning.Assignment.TheVariants.{AllFollowed, TooMany, NotOpen}
+use Rattle.capacity.specs.declared.assigning.Unassigned.{Unassigned}
+use Rattle.capacity.specs.declared.assigning.Unassigned.TheVariants.{TurnedAway, NotOpen, TooMany}
 
 -- each of k dishes may follow the pass
 abbrev pub Open : ℕ → Pass → Type 0
@@ -43,9 +44,17 @@ pub record FirstFree (free : List ℕ) (x d : ℕ) : Type 0 where
   pub is_free : slice_index_or free d 0 ≤ x
   pub before : NoneFree d free x
 
--- what is answered, and what is then in the room: a plan that follows every pass; or what the room held before, if in some second too many
--- passes hold a dish, or if not every dish may follow every pass
-abbrev pub Assigned : Station → List Pass → (room : Plan) → Assignment → (after : Plan) → Type 0
-Assigned s ps room AllFollowed after = AllOpen s.dishes ps × FollowsAll s ps after
-Assigned s ps room (TooMany x) after = AllOpen s.dishes ps × FirstOverfull s ps x × (after ≡ room)
-Assigned s ps room (NotOpen i) after = FirstClosed s.dishes ps i × (after ≡ room)
+-- the refusal by which the room was turned away, if it was
+abbrev pub turned_away : Result Unit Unassigned → Option Refusal
+turned_away (Ok all) = None
+turned_away (Err (TurnedAway refusal)) = Some refusal
+turned_away (Err (NotOpen i)) = None
+turned_away (Err (TooMany x)) = None
+
+-- what is answered, unless the room was turned away, and what is then in the room: a plan that follows every pass; or why there is none, which
+-- is that not every dish may follow every pass, or that in some second too many passes hold a dish
+abbrev pub Assigned : Station → List Pass → Result Unit Unassigned → (after : Plan) → Type 0
+Assigned s ps (Ok all) after = AllOpen s.dishes ps × FollowsAll s ps after
+Assigned s ps (Err (TurnedAway refusal)) after = ⊤
+Assigned s ps (Err (NotOpen i)) after = FirstClosed s.dishes ps i
+Assigned s ps (Err (TooMany x)) after = AllOpen s.dishes ps × FirstOverfull s ps x

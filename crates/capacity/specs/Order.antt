@@ -2,6 +2,7 @@
 use Rattle.std.specs.Prelude.{ℕ, ◌<◌, ◌≤◌, List, length}
 use Rattle.passes.specs.declared.model.Pass.{Pass}
 use Rattle.passes.specs.Rule.{nth}
+use Rattle.std.proofs.Props.{props}
 
 -- each pass of a list ends after it begins
 abbrev pub EachEnds : List Pass → Type 0
@@ -11,6 +12,13 @@ EachEnds ps = (i : ℕ) → i < length ps → (nth ps i).from < (nth ps i).to
 pub record InTime (ps : List Pass) : Type 0 where
   pub ends : EachEnds ps
   pub order : (i j : ℕ) → i ≤ j → j < length ps → (nth ps i).from ≤ (nth ps j).from
+
+-- it says no more than that it holds
+pub InTime-prop : (ps : List Pass) → IsProp (InTime ps)
+InTime-prop ps a b =
+    let ends : IsProp (EachEnds ps) = Prim.hlevel props in
+    let order : IsProp ((i j : ℕ) → i ≤ j → j < length ps → (nth ps i).from ≤ (nth ps j).from) = Prim.hlevel props in
+    λ t. record { ends = ends a.ends b.ends t; order = order a.order b.order t }
 
 -- r is the first pass of a list that begins in the second x or later, or the number of passes if none does
 pub record FirstFrom (ps : List Pass) (x r : ℕ) : Type 0 where

@@ -1,12 +1,13 @@
 // One dish alone: a table of the most that it can gain from each pass on, and the plan that follows from it.
-ghost use Rattle.std.specs.Prelude.{◌≡◌, ℕ, ◌+◌, ◌^◌, ◌<◌, ◌≤◌, true, List, length, take, drop, sum, MatchResult};
+ghost use Rattle.std.specs.Prelude.{◌≡◌, ℕ, ◌+◌, ◌^◌, ◌<◌, ◌≤◌, ◌&&◌, nat_lt, List, length, take, sum, MatchResult};
 ghost use Rattle.std.specs.Result.{result_err};
-ghost use Rattle.passes.specs.Checks.{checked, most_passes};
-ghost use Rattle.passes.specs.Nights.{station_of};
+ghost use Rattle.passes.specs.Checks.{most_passes};
+ghost use Rattle.passes.specs.Follow.{may};
+ghost use Rattle.passes.specs.Nights.{passes_of, station_of};
 ghost use Rattle.passes.specs.Numbers.{passes_in};
 ghost use Rattle.passes.specs.Refusals.{refused_with_room};
-ghost use Rattle.capacity.specs.Alone.{BestAlone, GainsMost, RightFrom, worths, Planned};
-ghost use Rattle.capacity.specs.Order.{InTime, FirstFrom};
+ghost use Rattle.capacity.specs.Alone.{BestAlone, RightFrom, worths, Planned};
+ghost use Rattle.capacity.specs.Order.{InTime, InTime-prop, FirstFrom};
 
 use passes::{MAX_PASSES, Night, Pass, Refusal, Station};
 
@@ -19,36 +20,27 @@ pub fn plan_one_dish(turn: u64, numbers: &[u32], room: &mut [u8]) -> Result<u64,
     ensures planned { MatchResult result (λ w. Planned (station_of 1 turn) (passes_in numbers.now) room.new w) (λ _. room.new ≡ room.old) }
 {
     let night = Night::read_for_room(1, turn, numbers, room.len())?;
+    let mut table = [0; MAX_ENTRIES];
+    Ok(plan_alone(&night, &mut table, room))
+}
+
+// Leaves a best plan of a night with one dish in the room, and says what it is worth.
+fn plan_alone(night: &Night, table: &mut [u64; MAX_ENTRIES], room: &mut [u8]) -> u64
+    requires one_dish { night.now.station.dishes ≡ 1 }
+    requires one_each { length room.old ≡ length (passes_of night.now) }
+    ensures { Planned night.now.station (passes_of night.now) room.new result }
+{
     let passes = night.passes();
     let count = passes.len();
     let worths = worths_of(passes);
-    let mut table = [0; MAX_ENTRIES];
-    Ok(plan_alone(
-        night.station(),
+    let table = &mut table[..count + 1];
+    let alone = OneDish {
+        station: night.station(),
+        dish: 0,
         passes,
-        &worths[0..count],
-        &mut table[0..count + 1],
-        room,
-    ))
-}
-
-// Leaves a best plan of the station's one dish in the room, and says what it is worth.
-fn plan_alone(
-    station: Station,
-    passes: &[Pass],
-    gains: &[u64],
-    table: &mut [u64],
-    room: &mut [u8],
-) -> u64
-    requires taken { checked station passes.now ≡ true }
-    requires one_dish { station.dishes ≡ 1 }
-    requires the_worths { gains.now ≡ worths passes.now }
-    requires one_more { length table.old ≡ length passes.now + 1 }
-    requires one_each { length room.old ≡ length passes.now }
-    ensures { Planned station passes.now room.new result }
-{
-    fill_table(station, 0, passes, gains, table);
-    follow_table(station, 0, passes, table, room);
+    };
+    alone.fill_table(&worths[..count], table);
+    alone.follow_table(table, room);
     table[0]
 }
 
@@ -58,86 +50,73 @@ fn worths_of(passes: &[Pass]) -> [u64; MAX_PASSES]
     ensures { take (length passes.now) result ≡ worths passes.now }
 {
     let mut gains = [0; MAX_PASSES];
-    for i in 0..passes.len() {
-        gains[i] = passes[i].worth as u64;
+    for (i, pass) in passes.iter().enumerate() {
+        gains[i] = pass.worth as u64;
     }
     gains
 }
 
-// The first pass that begins in this second or later.
-fn first_from(passes: &[Pass], second: u64) -> usize
-    requires { InTime passes.now }
-    ensures { FirstFrom passes.now second result }
-{
-    let mut low = 0;
-    let mut high = passes.len();
-    while low < high {
-        let middle = low + (high - low) / 2;
-        if (passes[middle].from as u64) < second {
-            low = middle + 1;
-        } else {
-            high = middle;
+// One dish of a station, and passes in order of time.
+#[derive(Clone, Copy)]
+pub struct OneDish<'a> {
+    pub station: Station,
+    pub dish: u8,
+    pub passes: &'a [Pass],
+    pub ghost in_time: { InTime passes.now } by { InTime-prop passes.now },
+}
+
+impl<'a> OneDish<'a> {
+    // Fills a table, from its end, with the most that the dish can gain from each pass on: it leaves the pass out, or follows it and goes on
+    // with the first that begins late enough after it.
+    pub fn fill_table(&self, gains: &[u64], table: &mut [u64])
+        requires a_gain_each { length gains.now ≡ length self.now.passes.now }
+        requires sum_fits { sum gains.now < 2 ^ 64 }
+        requires one_more { length table.old ≡ length self.now.passes.now + 1 }
+        ensures { let one = self.now in RightFrom 0 one.station one.dish one.passes.now gains.now table.new }
+    {
+        table[self.passes.len()] = 0;
+        for (i, pass) in self.passes.iter().enumerate().rev() {
+            let left_out = table[i + 1];
+            table[i] = if self.may_follow(*pass) {
+                let next = self.next_after(*pass);
+                left_out.max(gains[i] + table[next])
+            } else {
+                left_out
+            };
         }
     }
-    low
-}
 
-// Fills a table, from its end, with the most that the dish can gain from each pass on.
-pub fn fill_table(station: Station, dish: u8, passes: &[Pass], gains: &[u64], table: &mut [u64])
-    requires in_time { InTime passes.now }
-    requires a_gain_each { length gains.now ≡ length passes.now }
-    requires sum_fits { sum gains.now < 2 ^ 64 }
-    requires one_more { length table.old ≡ length passes.now + 1 }
-    ensures { RightFrom 0 station dish passes.now gains.now table.new }
-{
-    table[passes.len()] = 0;
-    for i in (0..passes.len()).rev() {
-        let most = most_from(station, dish, passes, gains, table, i);
-        table[i] = most;
-    }
-}
-
-// The most that the dish can gain from pass i on: it leaves the pass out, or follows it and goes on with the first that begins late enough after
-// it. The table has the entries after i.
-fn most_from(
-    station: Station,
-    dish: u8,
-    passes: &[Pass],
-    gains: &[u64],
-    table: &[u64],
-    i: usize,
-) -> u64
-    requires in_time { InTime passes.now }
-    requires a_gain_each { length gains.now ≡ length passes.now }
-    requires sum_fits { sum gains.now < 2 ^ 64 }
-    requires one_more { length table.now ≡ length passes.now + 1 }
-    requires within { i < length passes.now }
-    requires filled { RightFrom (i + 1) station dish passes.now gains.now table.now }
-    ensures { GainsMost station dish (drop i passes.now) (drop i gains.now) result }
-{
-    let left_out = table[i + 1];
-    if dish >= station.dishes || !passes[i].may_be_followed_by(dish) {
-        return left_out;
-    }
-    let next = first_from(passes, passes[i].to as u64 + station.turn as u64);
-    left_out.max(gains[i] + table[next])
-}
-
-// Leaves a best plan of the dish alone in the room, for whatever gains the table has the most of: it follows each pass that it can gain by.
-pub fn follow_table(station: Station, dish: u8, passes: &[Pass], table: &[u64], room: &mut [u8])
-    requires in_time { InTime passes.now }
-    requires one_more { length table.now ≡ length passes.now + 1 }
-    requires one_each { length room.old ≡ length passes.now }
-    requires a_byte { dish < 255 }
-    ensures { (gs : List ℕ) → length gs ≡ length passes.now → RightFrom 0 station dish passes.now gs table.now → BestAlone station dish passes.now gs room.new }
-{
-    let mut next = 0;
-    for i in 0..passes.len() {
-        if next <= i && table[i] > table[i + 1] {
-            room[i] = dish + 1;
-            next = first_from(passes, passes[i].to as u64 + station.turn as u64);
-        } else {
-            room[i] = 0;
+    // Leaves a best plan of the dish alone in the room, for whatever gains the table has the most of: it follows each pass that it can gain by.
+    pub fn follow_table(&self, table: &[u64], room: &mut [u8])
+        requires one_more { length table.now ≡ length self.now.passes.now + 1 }
+        requires one_each { length room.old ≡ length self.now.passes.now }
+        requires a_byte { self.now.dish < 255 }
+        ensures { let one = self.now in (gs : List ℕ) → length gs ≡ length one.passes.now → RightFrom 0 one.station one.dish one.passes.now gs table.now → BestAlone one.station one.dish one.passes.now gs room.new }
+    {
+        let mut next = 0;
+        for (i, pass) in self.passes.iter().enumerate() {
+            if next <= i && table[i] > table[i + 1] {
+                room[i] = self.dish + 1;
+                next = self.next_after(*pass);
+            } else {
+                room[i] = 0;
+            }
         }
+    }
+
+    // Whether the dish is there and may follow the pass.
+    fn may_follow(&self, pass: Pass) -> bool
+        ensures { result ≡ (nat_lt self.now.dish self.now.station.dishes && may pass self.now.dish) }
+    {
+        self.dish < self.station.dishes && pass.may_be_followed_by(self.dish)
+    }
+
+    // The first pass that begins late enough after this one, or the number of passes if none does.
+    fn next_after(&self, pass: Pass) -> usize
+        ensures { FirstFrom self.now.passes.now (pass.to + self.now.station.turn) result }
+    {
+        let turned = pass.to as u64 + self.station.turn as u64;
+        self.passes
+            .partition_point(|later| (later.from as u64) < turned)
     }
 }

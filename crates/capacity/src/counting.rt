@@ -4,6 +4,8 @@ ghost use Rattle.passes.specs.Busy.{busy};
 ghost use Rattle.capacity.specs.Peaks.{Busiest};
 
 use passes::Pass;
+use std::cmp::Reverse;
+use std::iter::once;
 
 // The first second in which most passes hold a dish, and how many do.
 #[derive(Clone, Copy, Debug, PartialEq)]
@@ -16,29 +18,22 @@ pub struct Peak {
 pub fn busiest(passes: &[Pass], turn: u32) -> Peak
     ensures { Busiest turn passes.now result.second result.count }
 {
-    let mut peak = Peak {
-        second: 0,
-        count: busy_at(passes, 0, turn),
-    };
-    for pass in passes {
-        let second = pass.from;
-        let count = busy_at(passes, second, turn);
-        if count > peak.count || count == peak.count && second < peak.second {
-            peak = Peak { second, count };
-        }
-    }
-    peak
+    once(0)
+        .chain(passes.iter().map(|pass| pass.from))
+        .map(|second| Peak {
+            second,
+            count: busy_at(passes, second, turn),
+        })
+        .max_by_key(|peak| (peak.count, Reverse(peak.second)))
+        .unwrap()
 }
 
 // How many passes hold a dish in this second.
 fn busy_at(passes: &[Pass], second: u32, turn: u32) -> usize
     ensures { result ≡ busy turn passes.now second }
 {
-    let mut count = 0;
-    for pass in passes {
-        if pass.holds_dish_at(second, turn) {
-            count += 1;
-        }
-    }
-    count
+    passes
+        .iter()
+        .filter(|pass| pass.holds_dish_at(second, turn))
+        .count()
 }

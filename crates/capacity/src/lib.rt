@@ -6,8 +6,8 @@ mod assigning;
 mod counting;
 mod laws;
 
-pub use alone::{fill_table, follow_table, plan_one_dish};
-pub use assigning::{Assignment, assign_all};
+pub use alone::{OneDish, plan_one_dish};
+pub use assigning::{Unassigned, assign_all};
 pub use counting::{Peak, busiest};
 pub use laws::all_followed_stands;
 
@@ -17,57 +17,43 @@ mod tests {
     use passes::{Night, Pass, Refusal};
     use std::test::Fail;
 
-    // Five passes that any dish may follow.
-    fn five() -> [u32; 20] {
-        let rows = [
-            [0, 10, 5, 15],
-            [5, 15, 9, 15],
-            [12, 20, 6, 15],
-            [16, 25, 4, 15],
-            [21, 30, 7, 15],
-        ];
-        let mut numbers = [0; 20];
-        for i in 0..20 {
-            numbers[i] = rows[i / 4][i % 4];
-        }
-        numbers
-    }
+    // Five passes that any dish may follow: from, to, worth, marks.
+    const FIVE: [[u32; 4]; 5] = [
+        [0, 10, 5, 15],
+        [5, 15, 9, 15],
+        [12, 20, 6, 15],
+        [16, 25, 4, 15],
+        [21, 30, 7, 15],
+    ];
 
     // Forty-eight passes of one second, all the same.
-    fn equal() -> [u32; 192] {
-        let row = [0, 1, 1, 15];
-        let mut numbers = [0; 192];
-        for i in 0..192 {
-            numbers[i] = row[i % 4];
-        }
-        numbers
-    }
+    const EQUAL: [[u32; 4]; 48] = [[0, 1, 1, 15]; 48];
 
     // Three passes, which dishes 0, 0 and 1 may follow.
-    const MARKED: [u32; 12] = [0, 10, 5, 1, 5, 15, 9, 1, 12, 20, 6, 2];
+    const MARKED: [[u32; 4]; 3] = [[0, 10, 5, 1], [5, 15, 9, 1], [12, 20, 6, 2]];
 
     // Two passes, one of which ends as the other begins.
-    const TOUCHING: [u32; 8] = [0, 10, 5, 15, 10, 20, 5, 15];
+    const TOUCHING: [[u32; 4]; 2] = [[0, 10, 5, 15], [10, 20, 5, 15]];
 
     // The busiest second of a list.
-    fn peak(turn: u64, numbers: &[u32]) -> Result<Peak, Refusal> {
-        let night = Night::read(1, turn, numbers)?;
+    fn peak(turn: u64, passes: &[[u32; 4]]) -> Result<Peak, Refusal> {
+        let night = Night::read(1, turn, passes.as_flattened())?;
         Ok(busiest(night.passes(), night.station().turn))
     }
 
     #[test]
     fn busiest_seconds(rt: HostRuntime) {
         let cases = [
-            (peak(0, &five()), 5, 2),
-            (peak(3, &five()), 12, 3),
+            (peak(0, &FIVE), 5, 2),
+            (peak(3, &FIVE), 12, 3),
             // only the turning after the first pass meets the second
-            (peak(0, &[0, 10, 1, 1, 12, 20, 1, 1]), 0, 1),
-            (peak(3, &[0, 10, 1, 1, 12, 20, 1, 1]), 12, 2),
+            (peak(0, &[[0, 10, 1, 1], [12, 20, 1, 1]]), 0, 1),
+            (peak(3, &[[0, 10, 1, 1], [12, 20, 1, 1]]), 12, 2),
             (peak(0, &TOUCHING), 0, 1),
             (peak(1, &TOUCHING), 10, 2),
             (peak(100_000, &[]), 0, 0),
-            (peak(0, &[7, 9, 4, 0]), 7, 1),
-            (peak(0, &equal()), 0, 48),
+            (peak(0, &[[7, 9, 4, 0]]), 7, 1),
+            (peak(0, &EQUAL), 0, 48),
         ];
         for (found, second, count) in cases {
             assert_eq!(rt; found, Ok(Peak { second, count }));
@@ -96,108 +82,98 @@ mod tests {
         );
     }
 
-    // The plan of one dish for five passes, and what it is worth.
-    fn plan_five(turn: u64) -> Result<(u64, [u8; 5]), Refusal> {
-        let mut room = [9; 5];
-        let worth = plan_one_dish(turn, &five(), &mut room)?;
-        Ok((worth, room))
-    }
-
-    // The same for two passes.
-    fn plan_two(turn: u64, numbers: &[u32; 8]) -> Result<(u64, [u8; 2]), Refusal> {
-        let mut room = [9; 2];
-        let worth = plan_one_dish(turn, numbers, &mut room)?;
+    // The plan of one dish, and what it is worth.
+    fn planned<const N: usize>(
+        turn: u64,
+        passes: &[[u32; 4]; N],
+    ) -> Result<(u64, [u8; N]), Refusal> {
+        let mut room = [9; N];
+        let worth = plan_one_dish(turn, passes.as_flattened(), &mut room)?;
         Ok((worth, room))
     }
 
     #[test]
-    fn one_dish(rt: HostRuntime) {
+    fn one_dish(rt: HostRuntime) -> Result<(), Fail> {
         // the dearest first would get 16
-        assert_eq!(rt; plan_five(0), Ok((18, [1, 0, 1, 0, 1])));
+        assert_eq!(rt; planned(0, &FIVE), Ok((18, [1, 0, 1, 0, 1])));
         // the first to end first would get 9
-        assert_eq!(rt; plan_five(3), Ok((16, [0, 1, 0, 0, 1])));
-        assert_eq!(rt; plan_two(0, &TOUCHING), Ok((10, [1, 1])));
-        assert_eq!(rt; plan_two(1, &TOUCHING), Ok((5, [0, 1])));
+        assert_eq!(rt; planned(3, &FIVE), Ok((16, [0, 1, 0, 0, 1])));
+        assert_eq!(rt; planned(0, &TOUCHING), Ok((10, [1, 1])));
+        assert_eq!(rt; planned(1, &TOUCHING), Ok((5, [0, 1])));
         // marks of dishes that aren't there don't count
         assert_eq!(rt;
-            plan_two(0, &[0, 10, 5, 15, 10, 20, 5, 14]),
+            planned(0, &[[0, 10, 5, 15], [10, 20, 5, 14]]),
             Ok((5, [1, 0]))
         );
-        assert_eq!(rt; plan_one_dish(0, &[], &mut []), Ok(0));
-        let mut room = [9; 1];
-        assert_eq!(rt; plan_one_dish(0, &[7, 9, 4, 1], &mut room), Ok(4));
-        assert_eq!(rt; room, [1]);
-        let mut room = [9; 48];
-        assert_eq!(rt; plan_one_dish(0, &equal(), &mut room), Ok(1));
+        assert_eq!(rt; planned(0, &[]), Ok((0, [])));
+        assert_eq!(rt; planned(0, &[[7, 9, 4, 1]]), Ok((4, [1])));
+        let (worth, room) = planned(0, &EQUAL)?;
+        assert_eq!(rt; worth, 1);
         assert_eq!(rt; room[46], 0);
         assert_eq!(rt; room[47], 1);
+        Ok(())
     }
 
     #[test]
     fn turned_away(rt: HostRuntime) -> Result<(), Fail> {
         let mut room = [9; 5];
         assert_eq!(rt;
-            plan_one_dish(100_001, &five(), &mut room),
+            plan_one_dish(100_001, FIVE.as_flattened(), &mut room),
             Err(Refusal::BadTurning)
         );
         assert_eq!(rt; plan_one_dish(0, &[7], &mut room), Err(Refusal::BadPass(0)));
         assert_eq!(rt;
-            plan_one_dish(0, &MARKED, &mut room),
+            plan_one_dish(0, MARKED.as_flattened(), &mut room),
             Err(Refusal::BadRoom(5))
         );
-        let night = Night::read(2, 0, &MARKED)?;
-        assert_eq!(rt; assign_all(&night, &mut room), Err(Refusal::BadRoom(5)));
+        let night = Night::read(2, 0, MARKED.as_flattened())?;
+        assert_eq!(rt;
+            assign_all(&night, &mut room),
+            Err(Unassigned::TurnedAway(Refusal::BadRoom(5)))
+        );
         assert_eq!(rt; room, [9; 5]);
         Ok(())
     }
 
-    // What comes of giving dishes to five passes, and the room.
-    fn assign_five(dishes: u64, turn: u64) -> Result<(Assignment, [u8; 5]), Refusal> {
-        let night = Night::read(dishes, turn, &five())?;
-        let mut room = [9; 5];
-        let assignment = assign_all(&night, &mut room)?;
-        Ok((assignment, room))
+    // What comes of giving dishes to all passes, and the room.
+    fn assigned<const N: usize>(
+        dishes: u64,
+        turn: u64,
+        passes: &[[u32; 4]; N],
+    ) -> Result<(Result<(), Unassigned>, [u8; N]), Refusal> {
+        let night = Night::read(dishes, turn, passes.as_flattened())?;
+        let mut room = [9; N];
+        let all = assign_all(&night, &mut room);
+        Ok((all, room))
     }
 
     #[test]
-    fn all_dishes(rt: HostRuntime) -> Result<(), Fail> {
-        assert_eq!(rt;
-            assign_five(2, 0),
-            Ok((Assignment::AllFollowed, [1, 2, 1, 2, 1]))
-        );
-        assert_eq!(rt;
-            assign_five(3, 3),
-            Ok((Assignment::AllFollowed, [1, 2, 3, 1, 2]))
-        );
+    fn all_dishes(rt: HostRuntime) {
+        assert_eq!(rt; assigned(2, 0, &FIVE), Ok((Ok(()), [1, 2, 1, 2, 1])));
+        assert_eq!(rt; assigned(3, 3, &FIVE), Ok((Ok(()), [1, 2, 3, 1, 2])));
         // too many only with the turning
-        assert_eq!(rt; assign_five(2, 3), Ok((Assignment::TooMany(12), [9; 5])));
-        assert_eq!(rt; assign_five(1, 0), Ok((Assignment::TooMany(5), [9; 5])));
-        let mut room = [9; 3];
+        assert_eq!(rt;
+            assigned(2, 3, &FIVE),
+            Ok((Err(Unassigned::TooMany(12)), [9; 5]))
+        );
+        assert_eq!(rt;
+            assigned(1, 0, &FIVE),
+            Ok((Err(Unassigned::TooMany(5)), [9; 5]))
+        );
         // a plan that gives dishes as they come would let the last pass go
         assert_eq!(rt;
-            assign_all(&Night::read(2, 0, &MARKED)?, &mut room),
-            Ok(Assignment::NotOpen(0))
+            assigned(2, 0, &MARKED),
+            Ok((Err(Unassigned::NotOpen(0)), [9; 3]))
         );
         assert_eq!(rt;
-            assign_all(&Night::read(1, 0, &MARKED)?, &mut room),
-            Ok(Assignment::NotOpen(2))
+            assigned(1, 0, &MARKED),
+            Ok((Err(Unassigned::NotOpen(2)), [9; 3]))
         );
-        assert_eq!(rt; room, [9; 3]);
+        assert_eq!(rt; assigned(1, 0, &[]), Ok((Ok(()), [])));
+        assert_eq!(rt; assigned(1, 0, &[[7, 9, 4, 1]]), Ok((Ok(()), [1])));
         assert_eq!(rt;
-            assign_all(&Night::read(1, 0, &[])?, &mut []),
-            Ok(Assignment::AllFollowed)
+            assigned(4, 0, &EQUAL),
+            Ok((Err(Unassigned::TooMany(0)), [9; 48]))
         );
-        let mut room = [9; 1];
-        assert_eq!(rt;
-            assign_all(&Night::read(1, 0, &[7, 9, 4, 1])?, &mut room),
-            Ok(Assignment::AllFollowed)
-        );
-        assert_eq!(rt; room, [1]);
-        let mut room = [9; 48];
-        assert_eq!(rt;
-            assign_all(&Night::read(4, 0, &equal())?, &mut room),
-            Ok(Assignment::TooMany(0))
-        );
-        Ok(())
     }
 }

@@ -2,7 +2,7 @@
 // followed.
 #![tactic(auto)]
 
-use capacity::{Assignment, Peak, assign_all, busiest, plan_one_dish};
+use capacity::{Peak, assign_all, busiest, plan_one_dish};
 use passes::{Night, judge};
 use std::{fmt, io};
 
@@ -73,10 +73,8 @@ fn report_night(rt: &HostRuntime, night: &Night, room: &mut [u8]) -> io::Result<
     let Peak { second, count } = busiest(night.passes(), night.station().turn);
     print!(rt; "busiest second {second} with {count} passes, ")?;
     match assign_all(night, room) {
-        Ok(Assignment::AllFollowed) => println!(rt; "all followed by {}", Plan(room)),
-        Ok(Assignment::TooMany(second)) => println!(rt; "too many in second {second}"),
-        Ok(Assignment::NotOpen(pass)) => println!(rt; "not every dish may follow pass {pass}"),
-        Err(refusal) => println!(rt; "turned away, {refusal}"),
+        Ok(()) => println!(rt; "all followed by {}", Plan(room)),
+        Err(why) => println!(rt; "{why}"),
     }
 }
 

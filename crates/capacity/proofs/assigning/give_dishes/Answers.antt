@@ -1,32 +1,34 @@
-use Rattle.std.proofs.Common.{◌≡◌, ◌-◌, length, refl, ◌∙◌, add-one, arith, length-set}
+use Rattle.std.proofs.Common.{◌≡◌, length, Some, None, ◌∙◌, add-one, arith, length-set}
 use Rattle.std.proofs.lemmas.List.{length-take, get_or-take}
-use Rattle.capacity.proofs.Giving.{none_given, all_given, too_many, give_one}
-use Rattle.capacity.proofs.Greedy.{all_zero}
+use Rattle.std.proofs.lemmas.Option.{MatchOption-at_some, MatchOption-at_none}
+use Rattle.std.proofs.lemmas.Result.{err_from_is_err_and}
+use Rattle.passes.specs.Rule.{nth}
+use Rattle.capacity.proofs.Giving.{all_given, too_many, give_one}
 use Rattle.capacity.proofs.assigning.give_dishes.Goals as goal
 
-pub loop-i-init : goal.loop-i-init
-loop-i-init c = (refl, none_given _ _ _ _ c.requires.one_each c.requires.empty (all_zero 4))
-
-pub slice_bounds-first_free-end : goal.slice_bounds-first_free-end
-slice_bounds-first_free-end c = omega arith
-
-pub returns-in-None : goal.returns-in-None
-returns-in-None c =
-    let k = c.args.station.dishes - 0 in
+pub returns-in_err-dish : goal.returns-in_err-dish
+returns-in_err-dish c =
+    let p = err_from_is_err_and c.from_residual.result c.from_residual.ensures.1 in
+    let k = c.args.station.dishes in
     let dishes = length-take k c.loop-i.free in
-    too_many c.args.station c.args.passes.now c.requires.in_time c.loop-i.free c.loop-i.plan c.loop-i.i c.loop-i-test.true c.loop-i.invariant.1
-    (λ d l. rw (get_or-take k c.loop-i.free d 0 (omega arith)) at (c.in-None.ensures d (omega arith)))
+    let none : c.first_free.result ≡ None = grind (arith, c.in_err-dish.ensures.value, c.in_err-dish.was) in
+    let held = MatchOption-at_none _ _ none c.first_free.ensures in
+    let over = too_many c.args.station c.args.passes.now c.requires.in_time c.loop-i.free c.loop-i.plan c.loop-i.i c.loop-i-test.true c.loop-i.invariant.1
+    (λ d l. rw (get_or-take k c.loop-i.free d 0 (omega arith)) at (held d (omega arith))) in
+    let second : c.in_err-dish.field-0.0 ≡ (nth c.args.passes.now c.loop-i.i).from = grind (arith, c.in_err-dish.ensures.value, c.in_err-dish.was) in
+    rw (p.1, p.2, second) over
 
 pub loop-i-preserved : goal.loop-i-preserved
 loop-i-preserved c =
-    let k = c.args.station.dishes - 0 in
+    let k = c.args.station.dishes in
+    let d = c.in_ok-dish.dish in
     let dishes = length-take k c.loop-i.free in
-    let told = c.in-Some.ensures in
-    let is_free = rw (get_or-take k c.loop-i.free c.in-Some.dish 0 (omega (arith, told.within))) at told.is_free in
-    let e = add-one c.in-Some.dish in (
-      length-set c.loop-i.free c.in-Some.dish _ ∙ c.loop-i.invariant.0,
-      rw e (give_one c.args.station c.args.passes.now c.requires.in_time c.loop-i.free c.loop-i.plan c.loop-i.i c.loop-i-test.true c.loop-i.invariant.1
-          c.in-Some.dish (omega (arith, told.within)) (omega (arith, told.within)) (c.requires.open c.loop-i.i c.loop-i-test.true c.in-Some.dish (omega (arith, told.within))) is_free),
+    let some : c.first_free.result ≡ Some d = grind (arith, c.in_ok-dish.ensures.value, c.in_ok-dish.was) in
+    let told = MatchOption-at_some _ _ d some c.first_free.ensures in
+    let is_free = rw (get_or-take k c.loop-i.free d 0 (omega (arith, told.within))) at told.is_free in (
+      length-set c.loop-i.free d _ ∙ c.loop-i.invariant.0,
+      rw (add-one d) (give_one c.args.station c.args.passes.now c.requires.in_time c.loop-i.free c.loop-i.plan c.loop-i.i c.loop-i-test.true c.loop-i.invariant.1
+          d (omega (arith, told.within)) (omega (arith, told.within)) (c.requires.open c.loop-i.i c.loop-i-test.true d (omega (arith, told.within))) is_free),
     )
 
 pub returns : goal.returns

@@ -1,17 +1,7 @@
-use Rattle.std.proofs.Common.{arith}
-use Rattle.std.proofs.lemmas.List.{drop_all}
-use Rattle.std.proofs.lemmas.Bool.Decides.{nat_tests}
-use Rattle.passes.specs.Busy.{busy}
-use Rattle.capacity.proofs.Begins.{busy_more}
+use Rattle.std.proofs.Common.{rules}
+use Rattle.std.proofs.iter.runs.Made.{chains}
+use Rattle.capacity.proofs.Begins.{busy-count}
 use Rattle.capacity.proofs.counting.busy_at.Goals as goal
 
-pub loop-pass-preserved : goal.loop-pass-preserved
-loop-pass-preserved c =
-    let step = busy_more c.args.turn c.args.passes.now c.args.second c.loop-pass.pass-index (omega arith) in
-    grind (arith, nat_tests, step)
-
 pub returns : goal.returns
-unfolding busy
-returns c =
-    let none = drop_all c.loop-pass.pass-index c.args.passes.now (omega arith) in
-    omega (arith, rw none at c.loop-pass.invariant.0)
+returns c = rw (busy-count c.args.turn c.args.passes.now c.args.second) (search (rules, chains))
