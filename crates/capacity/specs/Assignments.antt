@@ -1,5 +1,6 @@
 -- Dishes given to passes that all of them may follow. Assumes nothing: these are definitions.
-use Rattle.std.specs.Prelude.{◌≡◌, ℕ, ◌<◌, ◌≤◌, true, false, List, length, Some, None, Option, Ok, Err, Result, ⊤, slice_index, slice_index_or}
+use Rattle.std.specs.Prelude.{◌≡◌, ℕ, ◌<◌, ◌≤◌, true, false, List, ◌++◌, length, Some, None, Option, Ok, Err, Result, ⊤, codes, slice_index, slice_index_or}
+use Rattle.std.specs.Fmt.{decimal}
 use Rattle.passes.specs.declared.model.Pass.{Pass}
 use Rattle.passes.specs.declared.model.Station.{Station}
 use Rattle.passes.specs.declared.refusals.Refusal.{Refusal}
@@ -7,6 +8,7 @@ use Rattle.passes.specs.Busy.{busy}
 use Rattle.passes.specs.Follow.{may}
 use Rattle.passes.specs.Plans.{Plan, fits}
 use Rattle.passes.specs.Rule.{nth, says}
+use Rattle.passes.specs.Texts.{refusal_text}
 use Rattle.capacity.specs.declared.assigning.Unassigned.{Unassigned}
 use Rattle.capacity.specs.declared.assigning.Unassigned.TheVariants.{TurnedAway, NotOpen, TooMany}
 
@@ -58,3 +60,9 @@ Assigned s ps (Ok all) after = AllOpen s.dishes ps × FollowsAll s ps after
 Assigned s ps (Err (TurnedAway refusal)) after = ⊤
 Assigned s ps (Err (NotOpen i)) after = FirstClosed s.dishes ps i
 Assigned s ps (Err (TooMany x)) after = AllOpen s.dishes ps × FirstOverfull s ps x
+
+-- what is printed of it
+abbrev pub unassigned_text : Unassigned → List ℕ
+unassigned_text (TurnedAway refusal) = codes "turned away, " ++ refusal_text refusal
+unassigned_text (NotOpen i) = codes "not every dish may follow pass " ++ decimal i
+unassigned_text (TooMany x) = codes "too many in second " ++ decimal x

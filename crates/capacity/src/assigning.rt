@@ -1,14 +1,16 @@
 // Dishes given to passes that all of them may follow.
-ghost use Rattle.std.specs.Prelude.{◌≡◌, ℕ, ◌<◌, ◌≤◌, false, length, MatchBool, MatchOption, MatchResult, OnErr};
+ghost use Rattle.std.specs.Prelude.{◌≡◌, ℕ, ◌<◌, ◌≤◌, false, length, Some, MatchBool, MatchOption, MatchResult, OnErr};
 ghost use Rattle.passes.specs.Follow.{may};
 ghost use Rattle.passes.specs.Nights.{passes_of};
 ghost use Rattle.passes.specs.Refusals.{room_refused};
 ghost use Rattle.passes.specs.Rule.{says};
-ghost use Rattle.capacity.specs.Assignments.{Assigned, Open, AllOpen, FirstClosed, FollowsAll, FirstOverfull, NoneFree, FirstFree, turned_away};
+ghost use Rattle.capacity.specs.Assignments.{Assigned, Open, AllOpen, FirstClosed, FollowsAll, FirstOverfull, NoneFree, FirstFree, turned_away, unassigned_text};
 ghost use Rattle.capacity.specs.Order.{InTime};
 ghost use Rattle.capacity.specs.declared.assigning.Unassigned.TheVariants.{TurnedAway};
 
 use passes::{MAX_DISHES, MAX_PASSES, Night, Pass, Refusal, Station};
+use std::error::Error;
+use std::fmt;
 
 // Why there is no dish for every pass.
 #[derive(Clone, Copy, Debug, PartialEq)]
@@ -20,6 +22,20 @@ pub enum Unassigned {
     // The first second in which more passes hold a dish than there are dishes.
     TooMany(u32),
 }
+
+impl fmt::Display for Unassigned {
+    ghost output = { λ why. Some (unassigned_text why) };
+
+    fn fmt<W: fmt::Write>(&self, f: &mut fmt::Formatter<W>) -> fmt::Result {
+        match self {
+            Unassigned::TurnedAway(why) => write!(f, "turned away, {why}"),
+            Unassigned::NotOpen(pass) => write!(f, "not every dish may follow pass {pass}"),
+            Unassigned::TooMany(second) => write!(f, "too many in second {second}"),
+        }
+    }
+}
+
+impl Error for Unassigned {}
 
 impl From<Refusal> for Unassigned {
     ghost from_gives = { λ refusal why. why ≡ TurnedAway refusal };
