@@ -1,4 +1,5 @@
 // Theorems about the definitions, each on the contract of a function.
+// Kept: these functions differ in their contracts alone, and what a contract states can't be a parameter.
 ghost use Rattle.passes.specs.Statements.{TestIsRule, OneVerdict, TakenIfChecked, PlaceIsFirst, TouchingPasses};
 
 // The test for good plans is the rule.
