@@ -9,10 +9,10 @@ use Rattle.passes.specs.Rule.{nth}
 use Rattle.capacity.specs.Peaks.{Busiest}
 
 -- the number of passes that hold a dish, as a count
-pub busy-count : (t : ℕ) (ps : List Pass) (x : ℕ) → busy t ps x ≡ count_by (λ p. holds t p x) ps
+pub busy-count_by : (t : ℕ) (ps : List Pass) (x : ℕ) → busy t ps x ≡ count_by (λ p. holds t p x) ps
 unfolding busy
-busy-count t [] x = refl
-busy-count t (p ∷ ps) x = rw (busy-count t ps x) (sym (sum_by-cons (λ q. cond (holds t q x) 1 0) p ps))
+busy-count_by t [] x = refl
+busy-count_by t (p ∷ ps) x = rw (busy-count_by t ps x) (sym (sum_by-cons (λ q. cond (holds t q x) 1 0) p ps))
 
 module _ (t : ℕ) where
   -- pass j begins by y, and from then until y no fewer passes hold a dish than in y

@@ -13,7 +13,7 @@ pub record InTime (ps : List Pass) : Type 0 where
   pub ends : EachEnds ps
   pub order : (i j : ℕ) → i ≤ j → j < length ps → (nth ps i).from ≤ (nth ps j).from
 
--- it says no more than that it holds
+-- any two proofs of it are the same
 pub InTime-prop : (ps : List Pass) → IsProp (InTime ps)
 InTime-prop ps a b =
     let ends : IsProp (EachEnds ps) = Prim.hlevel props in

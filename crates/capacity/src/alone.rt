@@ -68,6 +68,7 @@ pub struct OneDish<'a> {
 impl<'a> OneDish<'a> {
     // Fills a table, from its end, with the most that the dish can gain from each pass on: it leaves the pass out, or follows it and goes on
     // with the first that begins late enough after it.
+    // Kept: the gains are a list beside the passes, since one list of passes is looked at with many lists of gains.
     pub fn fill_table(&self, gains: &[u64], table: &mut [u64])
         requires a_gain_each { length gains.now ≡ length self.now.passes.now }
         requires sum_fits { sum gains.now < 2 ^ 64 }
