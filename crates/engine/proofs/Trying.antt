@@ -21,7 +21,7 @@ module _ {S : Type 0} (m : Model S) where
     no_worse = λ e h. first.no_worse e (second.no_worse e h);
     untouched = λ none. second.untouched none ∙ first.untouched refl;
   }
-  improved_more laws best (Some b) None room room₁ room₂ first second = absurd (both_ways _ (laws.not_itself b) (second.no_worse b refl))
+  improved_more laws best (Some b) None room room₁ room₂ first second = absurd (both_ways _ (laws.order.not_itself b) (second.no_worse b refl))
   improved_more laws best (Some b) (Some b₂) room room₁ room₂ first second = record {
     holds = second.holds;
     no_worse = λ e h. first.no_worse e (second.no_worse e h);
@@ -31,7 +31,7 @@ module _ {S : Type 0} (m : Model S) where
   -- a run that ends ahead of the best so far takes its place
   pub improved_by : Laws m → (best : Option S) (e : S) (room room₁ : List ℕ) → beats m e best ≡ true → Run m.moves room₁ e → Improved m best room (Some e) room₁
   improved_by laws None e room room₁ ahead run = record { holds = run; no_worse = λ _ _. refl; untouched = λ none. absurd (grind arith) }
-  improved_by laws (Some b) e room room₁ ahead run = record { holds = run; no_worse = λ f further. laws.onward f e b further ahead; untouched = λ none. absurd (grind arith) }
+  improved_by laws (Some b) e room room₁ ahead run = record { holds = run; no_worse = λ f further. laws.order.onward f e b further ahead; untouched = λ none. absurd (grind arith) }
 
   -- past the last stage nothing beats what the state itself doesn't beat
   pub unbeaten_end : (s : S) (best : Option S) → beats m s best ≡ false → Unbeaten m m.moves.stages s best

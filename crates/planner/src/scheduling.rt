@@ -2,8 +2,9 @@
 ghost use Rattle.std.specs.Prelude.{◌≡◌, ◌<◌, ◌≤◌, length};
 ghost use Rattle.planner.specs.Sums.{Small, AddsUp};
 ghost use Rattle.planner.specs.Nights.{night};
+ghost use Rattle.planner.specs.Lawful.{night_moves, night_sums};
 
-use engine::Gains;
+use engine::{Decisions, Gains};
 use passes::Pass;
 
 // More than a night that is read has, so that wider problems fit.
@@ -63,12 +64,12 @@ fn add_up(passes: &[Pass], left: &mut [u64])
     }
 }
 
-impl Gains for Scheduling<'_> {
+impl Decisions for Scheduling<'_> {
     type State = FreeFrom;
 
-    ghost gaining = { λ p. night p.turns.now p.passes.now };
+    ghost moves = { λ p. (night p.turns.now p.passes.now).moves };
 
-    fn lawful(&self) {}
+    ghost move_laws = { λ p. night_moves p.turns.now p.passes.now };
 
     fn stages(&self) -> usize {
         self.passes.len()
@@ -100,6 +101,14 @@ impl Gains for Scheduling<'_> {
         seconds[dish] = pass.to as u64 + self.turns[dish] as u64;
         Some(FreeFrom { seconds })
     }
+}
+
+impl Gains for Scheduling<'_> {
+    ghost gain = { λ p. (night p.turns.now p.passes.now).gain };
+
+    ghost most = { λ p. (night p.turns.now p.passes.now).most };
+
+    ghost sum_laws = { λ p. night_sums p.turns.now p.passes.now p.small p.few_passes };
 
     fn gain(&self, stage: usize, choice: u8, _state: FreeFrom) -> u64 {
         if choice == 0 {
