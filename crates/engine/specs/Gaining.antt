@@ -2,7 +2,7 @@
 use Rattle.std.specs.Prelude.{◌≡◌, ℕ, ◌+◌, ◌*◌, ◌^◌, ◌<◌, ◌≤◌, List, [], ◌∷◌, Some, None, Option, nat_lt}
 use Rattle.std.specs.Option.{option_map}
 use Rattle.engine.specs.declared.gains.Tally.{Tally}
-use Rattle.engine.specs.Runs.{Step, Moves, MoveLaws, Way, Run}
+use Rattle.engine.specs.Runs.{Step, Moves, Way, Run}
 use Rattle.engine.specs.Problems.{Model, Order, in_order}
 
 -- what a choice gains, at a stage and in a state
@@ -24,11 +24,6 @@ gaining v gain most = record { moves = v; gain = gain; most = most }
 pub record SumLaws {S : Type 0} (g : Gaining S) : Type 0 where
   pub at_most : (i c : ℕ) (s t : S) → i < g.moves.stages → g.moves.fine i s → g.moves.step i c s ≡ Some t → g.gain i c s ≤ g.most
   pub fits : g.moves.stages * g.most < 2 ^ 64
-
--- what is asked of both
-pub record GainLaws {S : Type 0} (g : Gaining S) : Type 0 where
-  pub moves : MoveLaws g.moves
-  pub sums : SumLaws g
 
 -- a number that comes of a state, if there is one
 abbrev pub if_any : {S : Type 0} → Option S → (S → ℕ) → ℕ

@@ -1,6 +1,6 @@
 -- Which runs are best. Assumes nothing: these are definitions.
 use Rattle.std.specs.Prelude.{◌≡◌, ℕ, Bool, true, false, List, Some, None, Option}
-use Rattle.engine.specs.Runs.{Moves, MoveLaws, Way, Run}
+use Rattle.engine.specs.Runs.{Moves, Way, Run}
 
 -- which of two states is the better one
 abbrev pub Order : Type 0 → Type 0
@@ -19,11 +19,6 @@ pub record Model (S : Type 0) : Type 1 where
 -- these decisions with that order
 abbrev pub in_order : {S : Type 0} → Moves S → Order S → Model S
 in_order v ahead = record { moves = v; ahead = ahead }
-
--- what is asked of both
-pub record Laws {S : Type 0} (m : Model S) : Type 0 where
-  pub moves : MoveLaws m.moves
-  pub order : OrderLaws m.ahead
 
 -- what holds of every final state
 abbrev pub Final : {S : Type 0} → Model S → S → Type 0

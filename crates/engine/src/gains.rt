@@ -50,7 +50,7 @@ impl<G: Gains> Decisions for Summed<G> {
 
     ghost moves = { λ p. tally_moves (gaining (G.moves p.gains) (G.gain p.gains) (G.most p.gains)) };
 
-    ghost move_laws = { λ p. tally_move_laws (gaining (G.moves p.gains) (G.gain p.gains) (G.most p.gains)) (record { moves = G.move_laws p.gains; sums = G.sum_laws p.gains }) };
+    ghost move_laws = { λ p. tally_move_laws (gaining (G.moves p.gains) (G.gain p.gains) (G.most p.gains)) (G.move_laws p.gains) (G.sum_laws p.gains) };
 
     fn stages(&self) -> usize {
         self.gains.stages()

@@ -7,4 +7,4 @@ pub overflow_add-result : goal.overflow_add-result
 overflow_add-result g c =
     let a = c.args in
     let p = a.self.now.gains in
-    omega (arith, gain_fits (gaining (g.G.Decisions.moves p) (g.G.Gains.gain p) (g.G.Gains.most p)) (record { moves = g.met.G.Decisions.move_laws p; sums = g.met.G.Gains.sum_laws p }) a.stage a.choice a.at c.in_ok-state.state c.requires.within c.requires.fine (sym c.in_ok-state.ensures), c.gain.ensures)
+    omega (arith, gain_fits (gaining (g.G.Decisions.moves p) (g.G.Gains.gain p) (g.G.Gains.most p)) (g.met.G.Gains.sum_laws p) a.stage a.choice a.at c.in_ok-state.state c.requires.within c.requires.fine (sym c.in_ok-state.ensures), c.gain.ensures)
