@@ -1,4 +1,4 @@
-use Rattle.std.proofs.Common.{Some, sym, ap, arith, rules}
+use Rattle.std.proofs.Common.{arith, rules}
 use Rattle.engine.specs.Problems.{in_order}
 use Rattle.engine.specs.Runs.{leads}
 use Rattle.engine.proofs.Trying.{answered}
@@ -6,7 +6,7 @@ use Rattle.engine.proofs.searching.search.Goals as goal
 
 pub explore-requires-clause-came : goal.explore-requires-clause-came
 unfolding leads
-explore-requires-clause-came g c = record { within = omega arith; a_place_each = c.requires.a_place_each; leads_here = ap Some (sym c.start.ensures) }
+explore-requires-clause-came g c = record { within = omega arith; a_place_each = c.requires.a_place_each; leads_here = search rules }
 
 pub returns : goal.returns
 returns g c =

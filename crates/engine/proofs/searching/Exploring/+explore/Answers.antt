@@ -1,4 +1,4 @@
-use Rattle.std.proofs.Common.{◌≡◌, ◌-◌, sym, refl, ap, ◌∙◌, arith}
+use Rattle.std.proofs.Common.{◌≡◌, ◌-◌, ap, ◌∙◌, arith, rules}
 use Rattle.engine.specs.Problems.{in_order}
 use Rattle.engine.proofs.Ways.{fine_came, came_all, came_more, came_front, front_kept}
 use Rattle.engine.proofs.Trying.{improved_none, improved_more, fine_best, tried_none, tried_refused, tried_more, tried_all}
@@ -30,12 +30,12 @@ loop-choice-init g t c =
     let laws = g.met.P.Decisions.move_laws p in
     let fine = fine_came m.moves laws a.stage a.state a.made.now c.requires.came in
     record {
-      same_problem = refl;
-      same_room = refl;
-      same_best = refl;
+      same_problem = search rules;
+      same_room = search rules;
+      same_best = search rules;
       improved = improved_none m a.self.now.best.now a.self.now.room.now c.requires.holds;
       tried = rw c.choices-choice.ensures (tried_none m laws a.stage a.state a.self.now.best.now (omega (arith, c.requires.came.within, c.stages.ensures, c.if-stage-stages.false)) fine);
-      same_front = refl;
+      same_front = search rules;
     }
 
 pub step-requires-clause-fine : goal.step-requires-clause-fine
@@ -50,7 +50,7 @@ explore-requires g t c κs within =
     let l = c.loop-choice in
     let v = g.P.Decisions.moves a.self.now.problem.now in
     let came = came_front v a.stage a.state a.made.now l.made (omega (arith, c.requires.came.a_place_each)) l.invariant.same_front c.requires.came in
-    let more = came_more v a.stage a.state l.made (l.choice - 1) c.in-Some-step.next (omega (arith, c.requires.came.within, c.stages.ensures, c.if-stage-stages.false)) came (sym c.in-Some-step.ensures) in
+    let more = came_more v a.stage a.state l.made (l.choice - 1) c.in-Some-step.next (omega (arith, c.requires.came.within, c.stages.ensures, c.if-stage-stages.false)) came (search rules) in
     let same = l.invariant.same_problem in
     let stages = ap (λ q. (g.P.Decisions.moves q.now).stages) same in
     (omega (arith, c.decreases, stages, c.requires.came.within, c.stages.ensures, c.if-stage-stages.false), (within.0, (within.1, (rw same more, rw same l.invariant.improved.holds))))
@@ -68,7 +68,7 @@ loop-choice-preserved-in-Some-step g t c =
       same_room = told.same_room ∙ l.invariant.same_room;
       same_best = told.same_best ∙ l.invariant.same_best;
       improved = improved_more m (g.met.P.Problem.order_laws p) a.self.now.best.now l.self.best.now c.explore.new.self.best.now a.self.now.room.now l.self.room.now c.explore.new.self.room.now l.invariant.improved better;
-      tried = tried_more m a.stage a.state l.choice c.in-Some-step.next (sym c.in-Some-step.ensures) better (rw l.invariant.same_problem at told.unbeaten) l.invariant.tried;
+      tried = tried_more m a.stage a.state l.choice c.in-Some-step.next (search rules) better (rw l.invariant.same_problem at told.unbeaten) l.invariant.tried;
       same_front = front_kept a.stage a.made.now l.made c.explore.new.made (l.choice - 1) told.same_front l.invariant.same_front;
     }
 
@@ -83,7 +83,7 @@ loop-choice-preserved g t c =
       same_room = l.invariant.same_room;
       same_best = l.invariant.same_best;
       improved = l.invariant.improved;
-      tried = tried_refused m a.stage a.state l.choice l.self.best.now (sym c.step.ensures ∙ c.in_default-2.is) l.invariant.tried;
+      tried = tried_refused m a.stage a.state l.choice l.self.best.now (search rules) l.invariant.tried;
       same_front = l.invariant.same_front;
     }
 

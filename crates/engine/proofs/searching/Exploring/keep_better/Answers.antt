@@ -1,4 +1,4 @@
-use Rattle.std.proofs.Common.{◌≡◌, true, Some, sym, rules}
+use Rattle.std.proofs.Common.{◌≡◌, true, Some, rules}
 use Rattle.engine.specs.Problems.{in_order}
 use Rattle.engine.specs.Searching.{beats}
 use Rattle.engine.proofs.Ways.{fine_run}
@@ -28,7 +28,7 @@ returns-2-clause-improved g c =
     let m = in_order (g.P.Decisions.moves p.problem.now) (g.P.Problem.ahead p.problem.now) in
     let ahead : beats m c.args.state p.best.now ≡ true = elim c.in_default.branch [
       | in_default-via-in-None-1 w ↦ search rules
-      | in_default-via-in-Some+else-not-is_ahead w ↦ rw w.in-Some.is (sym w.if-not-is_ahead.ensures)
+      | in_default-via-in-Some+else-not-is_ahead w ↦ rw w.in-Some.is (search rules)
     ] in
     improved_by m (g.met.P.Problem.order_laws p.problem.now) p.best.now c.args.state p.room.now c.copy_from_slice.new.self ahead (rw c.copy_from_slice.ensures.after c.requires.run)
 
