@@ -1,12 +1,12 @@
 -- What is gained along a run, and the same over states that carry it. Assumes nothing.
 use Rattle.std.proofs.Common.{◌≡◌, ℕ, ◌+◌, ◌*◌, ◌^◌, ◌<◌, ◌≤◌, List, [], ◌∷◌, Some, None, Option, sym, refl, ap, ◌∙◌, add-zero, add_assoc, mul-le-mul_right, arith}
 use Rattle.std.proofs.lemmas.Bool.{le-ltb, ltb-false}
-use Rattle.std.specs.Option.{option_map}
+use Rattle.std.specs.Option.{option_map, option_map_or, option_and_then}
 use Rattle.engine.specs.declared.gains.Tally.{Tally}
-use Rattle.engine.specs.Runs.{and_then, leads, Way}
+use Rattle.engine.specs.Runs.{leads, Way}
 use Rattle.engine.specs.Problems.{Hopeless, Answered}
 use Rattle.engine.specs.Summing.{mapped_some, gain_more}
-use Rattle.engine.specs.Gaining.{Gaining, SumLaws, gained, if_any, Bound, GainAnswered, tally_step, tallied}
+use Rattle.engine.specs.Gaining.{Gaining, SumLaws, gained, Bound, GainAnswered, tally_step, tallied}
 
 module _ {S : Type 0} (g : Gaining S) where
   -- the state with what choices have gained on the way to it
@@ -22,8 +22,8 @@ module _ {S : Type 0} (g : Gaining S) where
       by_step :
           (o : Option S) →
           ((u : S) → leads (tally_step g) (i + 1) (with_gain (t.gained + g.gain i c t.state) u) cs ≡ option_map (with_gain (t.gained + g.gain i c t.state + gained g.moves.step g.gain (i + 1) u cs)) (leads g.moves.step (i + 1) u cs)) →
-          and_then (option_map (with_gain (t.gained + g.gain i c t.state)) o) (λ u. leads (tally_step g) (i + 1) u cs)
-          ≡ option_map (with_gain (t.gained + (g.gain i c t.state + if_any o (λ u. gained g.moves.step g.gain (i + 1) u cs)))) (and_then o (λ u. leads g.moves.step (i + 1) u cs))
+          option_and_then (λ u. leads (tally_step g) (i + 1) u cs) (option_map (with_gain (t.gained + g.gain i c t.state)) o)
+          ≡ option_map (with_gain (t.gained + (g.gain i c t.state + option_map_or (λ u. gained g.moves.step g.gain (i + 1) u cs) o 0))) (option_and_then (λ u. leads g.moves.step (i + 1) u cs) o)
       by_step None rest = refl
       by_step (Some u) rest = rest u ∙ ap (λ n. option_map (with_gain n) (leads g.moves.step (i + 1) u cs)) (add_assoc t.gained (g.gain i c t.state) (gained g.moves.step g.gain (i + 1) u cs))
 

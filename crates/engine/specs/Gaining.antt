@@ -1,6 +1,6 @@
 -- Decisions that gain something. Assumes nothing: these are definitions.
 use Rattle.std.specs.Prelude.{◌≡◌, ℕ, ◌+◌, ◌*◌, ◌^◌, ◌<◌, ◌≤◌, List, [], ◌∷◌, Some, None, Option, nat_lt}
-use Rattle.std.specs.Option.{option_map}
+use Rattle.std.specs.Option.{option_map, option_map_or}
 use Rattle.engine.specs.declared.gains.Tally.{Tally}
 use Rattle.engine.specs.Runs.{Step, Moves, Way, Run}
 use Rattle.engine.specs.Problems.{Model, Order, in_order}
@@ -25,15 +25,10 @@ pub record SumLaws {S : Type 0} (g : Gaining S) : Type 0 where
   pub at_most : (i c : ℕ) (s t : S) → i < g.moves.stages → g.moves.fine i s → g.moves.step i c s ≡ Some t → g.gain i c s ≤ g.most
   pub fits : g.moves.stages * g.most < 2 ^ 64
 
--- a number that comes of a state, if there is one
-abbrev pub if_any : {S : Type 0} → Option S → (S → ℕ) → ℕ
-if_any None f = 0
-if_any (Some s) f = f s
-
 -- what choices gain together from the state s of stage i on
 unfoldable pub gained : {S : Type 0} → Step S → Gain S → ℕ → S → List ℕ → ℕ
 gained step gain i s [] = 0
-gained step gain i s (c ∷ cs) = gain i c s + if_any (step i c s) (λ t. gained step gain (i + 1) t cs)
+gained step gain i s (c ∷ cs) = gain i c s + option_map_or (λ t. gained step gain (i + 1) t cs) (step i c s) 0
 
 -- what the choices of a run gain together
 abbrev pub gained_by : {S : Type 0} → Gaining S → List ℕ → ℕ

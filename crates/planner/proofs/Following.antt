@@ -1,8 +1,10 @@
 -- The decisions of a night, pass by pass, and what they gain. Assumes nothing.
 use Rattle.std.proofs.Common.{◌≡◌, ℕ, zero, suc, ◌+◌, ◌≤◌, cond, eqb, List, [], ◌∷◌, length, drop, replicate, Some, None, Option, sym, refl, ap, arith}
 use Rattle.std.proofs.lemmas.List.{drop_more, length-replicate}
+use Rattle.std.proofs.lemmas.Option.{option_and_then_some}
+use Rattle.std.specs.Option.{option_and_then}
 use Rattle.std.proofs.lemmas.Bool.Decides.{nat_tests}
-use Rattle.engine.specs.Runs.{and_then, leads, Run}
+use Rattle.engine.specs.Runs.{leads, Run}
 use Rattle.engine.specs.Gaining.{gained, Bound}
 use Rattle.engine.proofs.Leading.{leads_first}
 use Rattle.passes.specs.declared.model.Pass.{Pass}
@@ -22,7 +24,12 @@ module _ (turns : List ℕ) where
   unfoldable pub follow : List Pass → FreeFrom → Plan → Option FreeFrom
   follow ps s [] = Some s
   follow [] s (d ∷ ds) = None
-  follow (p ∷ ps) s (d ∷ ds) = and_then (decide turns p d s) (λ t. follow ps t ds)
+  follow (p ∷ ps) s (d ∷ ds) = option_and_then (λ t. follow ps t ds) (decide turns p d s)
+
+  -- the first number, and where the others lead from there
+  pub follow_first : (p : Pass) (ps : List Pass) (d : ℕ) (ds : Plan) (s e : FreeFrom) → follow (p ∷ ps) s (d ∷ ds) ≡ Some e → (t : FreeFrom) × (decide turns p d s ≡ Some t) × (follow ps t ds ≡ Some e)
+  unfolding follow
+  follow_first p ps d ds s e h = option_and_then_some _ (decide turns p d s) e h (λ t is then. (t, is, then))
 
   -- the night's choices lead there too
   pub leads_follow : (ps : List Pass) (ds : Plan) (i : ℕ) (s : FreeFrom) → i + length ds ≤ length ps → leads (night turns ps).moves.step i s ds ≡ follow (drop i ps) s ds
@@ -30,7 +37,7 @@ module _ (turns : List ℕ) where
   leads_follow ps [] i s l = refl
   leads_follow ps (d ∷ ds) i s l = rw (drop_more ps i no_pass (omega arith)) (by_decision (decide turns (nth ps i) d s) (λ t. leads_follow ps ds (i + 1) t (omega arith)))
     where
-      by_decision : (o : Option FreeFrom) → ((t : FreeFrom) → leads (night turns ps).moves.step (i + 1) t ds ≡ follow (drop (i + 1) ps) t ds) → and_then o (λ t. leads (night turns ps).moves.step (i + 1) t ds) ≡ and_then o (λ t. follow (drop (i + 1) ps) t ds)
+      by_decision : (o : Option FreeFrom) → ((t : FreeFrom) → leads (night turns ps).moves.step (i + 1) t ds ≡ follow (drop (i + 1) ps) t ds) → option_and_then (λ t. leads (night turns ps).moves.step (i + 1) t ds) o ≡ option_and_then (λ t. follow (drop (i + 1) ps) t ds) o
       by_decision None rest = refl
       by_decision (Some t) rest = rest t
 
