@@ -85,21 +85,17 @@ impl Decisions for Scheduling<'_> {
         }
     }
 
-    fn step(&self, stage: usize, choice: u8, state: FreeFrom) -> Option<FreeFrom> {
-        if choice == 0 {
+    fn step(&self, stage: usize, choice: u8, mut state: FreeFrom) -> Option<FreeFrom> {
+        let Some(dish) = choice.checked_sub(1) else {
             return Some(state);
-        }
-        let dish = choice as usize - 1;
-        let pass = self.passes[stage];
-        if dish >= self.turns.len()
-            || !pass.may_be_followed_by(dish as u8)
-            || state.seconds[dish] > pass.from as u64
-        {
+        };
+        let pass = &self.passes[stage];
+        let turn = *self.turns.get(dish as usize)?;
+        if !pass.may_be_followed_by(dish) || state.seconds[dish as usize] > pass.from as u64 {
             return None;
         }
-        let mut seconds = state.seconds;
-        seconds[dish] = pass.to as u64 + self.turns[dish] as u64;
-        Some(FreeFrom { seconds })
+        state.seconds[dish as usize] = pass.to as u64 + turn as u64;
+        Some(state)
     }
 }
 
@@ -111,10 +107,9 @@ impl Gains for Scheduling<'_> {
     ghost sum_laws = { λ p. night_sums p.turns.now p.passes.now p.small p.few_passes };
 
     fn gain(&self, stage: usize, choice: u8, _state: FreeFrom) -> u64 {
-        if choice == 0 {
-            0
-        } else {
-            self.passes[stage].worth as u64
+        match choice.checked_sub(1) {
+            Some(_dish) => self.passes[stage].worth as u64,
+            None => 0,
         }
     }
 
