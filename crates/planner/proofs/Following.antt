@@ -2,10 +2,10 @@
 use Rattle.std.proofs.Common.{◌≡◌, ℕ, zero, suc, ◌+◌, ◌≤◌, cond, eqb, List, [], ◌∷◌, length, drop, replicate, Some, None, Option, sym, refl, ap, arith}
 use Rattle.std.proofs.lemmas.List.{drop_more, length-replicate}
 use Rattle.std.proofs.lemmas.Option.{option_and_then_some}
-use Rattle.std.specs.Option.{option_and_then}
+use Rattle.std.specs.Option.{option_and_then, IsSome}
 use Rattle.std.proofs.lemmas.Bool.Decides.{nat_tests}
 use Rattle.engine.specs.Runs.{leads, Run}
-use Rattle.engine.specs.Gaining.{gained, Bound}
+use Rattle.engine.specs.Gaining.{gained, Bound, GainAnswered}
 use Rattle.engine.proofs.Leading.{leads_first}
 use Rattle.passes.specs.declared.model.Pass.{Pass}
 use Rattle.passes.specs.Plans.{Plan, worth_of}
@@ -49,6 +49,11 @@ module _ (turns : List ℕ) where
 
   pub idle_run : (ps : List Pass) → Run (night turns ps).moves (replicate (length ps) 0) (night turns ps).moves.start
   idle_run ps = record { one_each = omega (arith, length-replicate {A = ℕ} (length ps) 0); ends = idle ps (length ps) 0 (night turns ps).moves.start }
+
+  -- so something is answered
+  pub some_gain : (ps : List Pass) (room after : List ℕ) (gain : Option ℕ) → GainAnswered (night turns ps) room gain after → IsSome gain
+  some_gain ps room after None h = absurd (h.0 _ _ (idle_run ps))
+  some_gain ps room after (Some n) h = refl
 
   -- a plan gains what it is worth
   pub gained_worth : (ps : List Pass) (ds : Plan) (i : ℕ) (s e : FreeFrom) → i + length ds ≤ length ps → leads (night turns ps).moves.step i s ds ≡ Some e → gained (night turns ps).moves.step (night turns ps).gain i s ds ≡ worth_of (drop i ps) ds
