@@ -1,19 +1,22 @@
 -- The table of what the passes from each on are worth together. Assumes nothing.
-use Rattle.std.proofs.Common.{◌≡◌, ℕ, ◌+◌, ◌<◌, List, length, get_or, drop, set, ap, ◌∙◌, ⊎_elim, arith}
-use Rattle.std.proofs.lemmas.List.{drop_all, drop_more, get_or-set_other, get_or-set_same}
+use Rattle.std.proofs.Common.{◌≡◌, ℕ, ◌+◌, ◌-◌, ◌*◌, ◌^◌, ◌<◌, ◌≤◌, List, length, get_or, drop, replicate, set, ap, ◌∙◌, ⊎_elim, arith}
+use Rattle.std.proofs.lemmas.List.{drop_all, drop_more, get_or-replicate, get_or-set_other, get_or-set_same}
 use Rattle.std.proofs.lemmas.Bool.{cases_eq}
 use Rattle.passes.specs.declared.model.Pass.{Pass}
 use Rattle.passes.specs.Rule.{no_pass, nth}
 use Rattle.planner.specs.Sums.{all_worth, AddsUp}
 
-module _ (ps : List Pass) (table : List ℕ) where
-  -- behind all passes there is nothing
-  pub adds_up_none : length ps < length table → AddsUp ps (length ps) (set table (length ps) 0)
-  unfolding all_worth
-  adds_up_none room k low high =
-      let end : k ≡ length ps = omega arith in
-      rw (end, drop_all (length ps) ps (omega arith)) (get_or-set_same table (length ps) 0 0 room)
+-- behind all passes there is nothing
+pub adds_up_none : (ps : List Pass) (n : ℕ) → length ps < n → AddsUp ps (length ps) (replicate n 0)
+unfolding all_worth
+adds_up_none ps n room k low high =
+    let end : k ≡ length ps = omega arith in
+    rw (end, drop_all (length ps) ps (omega arith)) (get_or-replicate n (length ps) 0 0 room)
 
+pub adds_up_low : (ps : List Pass) (n : ℕ) → length ps < n → get_or (replicate n 0) (length ps) 0 ≤ (length ps - length ps) * 2 ^ 32
+adds_up_low ps n room = rw (get_or-replicate {A = ℕ} n (length ps) 0 0 room) (omega arith)
+
+module _ (ps : List Pass) (table : List ℕ) where
   -- one pass more
   pub adds_up_more : (i n : ℕ) → i < length ps → i < length table → n ≡ (nth ps i).worth + get_or table (i + 1) 0 → AddsUp ps (i + 1) table → AddsUp ps i (set table i n)
   unfolding all_worth

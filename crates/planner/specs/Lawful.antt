@@ -1,9 +1,10 @@
 -- That the decisions of a night are lawful. Assumes nothing.
-use Rattle.std.proofs.Common.{◌≡◌, ℕ, ◌<◌, ◌≤◌, List, length, refl, length-set, arith}
+use Rattle.std.proofs.Common.{ℕ, ◌≤◌, List, length, refl, length-set, arith}
 use Rattle.std.proofs.lemmas.Bool.Decides.{nat_tests}
 use Rattle.engine.specs.Runs.{MoveLaws}
 use Rattle.engine.specs.Gaining.{SumLaws}
 use Rattle.passes.specs.declared.model.Pass.{Pass}
+use Rattle.planner.specs.declared.scheduling.TheConstants.{MOST_PASSES}
 use Rattle.planner.specs.Nights.{night}
 use Rattle.planner.specs.Sums.{Small}
 
@@ -14,7 +15,7 @@ night_moves turns ps = record {
   offered = λ i c s t l fine h. grind (arith, nat_tests);
 }
 
-pub night_sums : (turns : List ℕ) (ps : List Pass) → Small ps → length ps ≤ 128 → SumLaws (night turns ps)
+pub night_sums : (turns : List ℕ) (ps : List Pass) → Small ps → length ps ≤ MOST_PASSES → SumLaws (night turns ps)
 night_sums turns ps small few = record {
   at_most = λ i c s t l fine h. let one = small i l in grind (arith, nat_tests);
   fits = omega arith;

@@ -1,5 +1,6 @@
 // A night as a sequence of decisions: on each pass, in order of begin, which dish follows it, if any.
 ghost use Rattle.std.specs.Prelude.{◌≡◌, ◌<◌, ◌≤◌, length};
+ghost use Rattle.planner.specs.declared.scheduling.TheConstants.{MOST_DISHES, MOST_PASSES};
 ghost use Rattle.planner.specs.Sums.{Small, AddsUp};
 ghost use Rattle.planner.specs.Nights.{night};
 ghost use Rattle.planner.specs.Lawful.{night_moves, night_sums};
@@ -27,8 +28,8 @@ pub struct Scheduling<'a> {
     passes: &'a [Pass],
     // What the passes from each on are worth together.
     left: [u64; ENTRIES],
-    ghost few_dishes: { length turns.now ≤ 8 },
-    ghost few_passes: { length passes.now ≤ 128 },
+    ghost few_dishes: { length turns.now ≤ MOST_DISHES },
+    ghost few_passes: { length passes.now ≤ MOST_PASSES },
     ghost small: { Small passes.now },
     ghost sums: { AddsUp passes.now 0 left },
 }
@@ -36,13 +37,12 @@ pub struct Scheduling<'a> {
 impl<'a> Scheduling<'a> {
     // The night of these dishes and passes.
     pub fn new(turns: &'a [u32], passes: &'a [Pass]) -> Scheduling<'a>
-        requires few_dishes { length turns.now ≤ 8 }
-        requires few_passes { length passes.now ≤ 128 }
+        requires few_dishes { length turns.now ≤ MOST_DISHES }
+        requires few_passes { length passes.now ≤ MOST_PASSES }
         ensures same_turns { result.turns.now ≡ turns.now }
         ensures same_passes { result.passes.now ≡ passes.now }
     {
-        let mut left = [0; ENTRIES];
-        add_up(passes, &mut left);
+        let left = add_up(passes);
         Scheduling {
             turns,
             passes,
@@ -51,17 +51,18 @@ impl<'a> Scheduling<'a> {
     }
 }
 
-// Writes down what the passes from each on are worth together, from the last to the first.
-fn add_up(passes: &[Pass], left: &mut [u64])
-    requires few_passes { length passes.now ≤ 128 }
-    requires an_entry_each { length passes.now < length left.old }
+// What the passes from each on are worth together.
+// Kept: by index, from the last to the first, since each entry comes of the one behind it.
+fn add_up(passes: &[Pass]) -> [u64; ENTRIES]
+    requires few_passes { length passes.now ≤ MOST_PASSES }
     ensures small { Small passes.now }
-    ensures sums { AddsUp passes.now 0 left.new }
+    ensures sums { AddsUp passes.now 0 result }
 {
-    left[passes.len()] = 0;
+    let mut left = [0; ENTRIES];
     for i in (0..passes.len()).rev() {
         left[i] = passes[i].worth as u64 + left[i + 1];
     }
+    left
 }
 
 impl Decisions for Scheduling<'_> {
