@@ -19,6 +19,7 @@ mod tests {
     use super::*;
     use engine::{Summed, gain_most};
     use passes::{Pass, Refusal};
+    use std::array;
     use std::test::Fail;
 
     // Five passes that any dish may follow.
@@ -96,19 +97,15 @@ mod tests {
     fn by_eights<const N: usize>() -> [Pass; N]
         requires { N ≤ 128 }
     {
-        let none = Pass {
-            from: 0,
-            to: 0,
-            worth: u32::MAX,
-            marks: 255,
-        };
-        let mut passes = [none; N];
-        for (i, pass) in passes.iter_mut().enumerate() {
+        array::from_fn(|i| {
             let from = 20 * (i as u32 / 8);
-            pass.from = from;
-            pass.to = from + 10;
-        }
-        passes
+            Pass {
+                from,
+                to: from + 10,
+                worth: u32::MAX,
+                marks: 255,
+            }
+        })
     }
 
     // What is gained at most by dishes that take so long to turn.
