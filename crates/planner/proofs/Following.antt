@@ -3,6 +3,7 @@ use Rattle.std.proofs.Common.{◌≡◌, ℕ, zero, suc, ◌+◌, ◌≤◌, con
 use Rattle.std.proofs.lemmas.List.{drop_more, length-replicate}
 use Rattle.std.proofs.lemmas.Option.{option_and_then_some}
 use Rattle.std.specs.Option.{option_and_then, IsSome}
+use Rattle.std.proofs.lemmas.List.Sums.{sum_by-cons}
 use Rattle.std.proofs.lemmas.Bool.Decides.{nat_tests}
 use Rattle.engine.specs.Runs.{leads, Run}
 use Rattle.engine.specs.Gaining.{gained, Bound, GainAnswered}
@@ -65,10 +66,13 @@ module _ (turns : List ℕ) where
 
 -- no plan is worth more than all passes together
 pub worth_at_most : (ps : List Pass) (ds : Plan) → worth_of ps ds ≤ all_worth ps
-unfolding worth_of all_worth
+unfolding worth_of
 worth_at_most [] ds = omega arith
 worth_at_most (p ∷ ps) [] = omega arith
-worth_at_most (p ∷ ps) (d ∷ ds) = let rest = worth_at_most ps ds in grind (arith, nat_tests)
+worth_at_most (p ∷ ps) (d ∷ ds) =
+    let rest = worth_at_most ps ds in
+    let all = sum_by-cons (λ (q : Pass). q.worth) p ps in
+    grind (arith, nat_tests)
 
 -- so that is a bound
 pub bound_all : (turns : List ℕ) (ps : List Pass) (i : ℕ) (s : FreeFrom) (n : ℕ) → n ≡ all_worth (drop i ps) → Bound (night turns ps) i s n
