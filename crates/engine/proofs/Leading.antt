@@ -1,5 +1,5 @@
 -- Where choices lead, one by one and one list after the other. Assumes nothing.
-use Rattle.std.proofs.Common.{◌≡◌, ℕ, ◌+◌, List, [], ◌∷◌, ◌++◌, length, Some, None, Option, refl, ◌∙◌, add-zero, arith}
+use Rattle.std.proofs.Common.{◌≡◌, ℕ, ◌+◌, List, [], ◌∷◌, ◌++◌, length, Some, refl, ◌∙◌, add-zero, arith}
 use Rattle.std.proofs.lemmas.Option.{option_and_then_some}
 use Rattle.engine.specs.Runs.{Step, leads}
 

@@ -1,12 +1,12 @@
 -- What is gained along a run, and the same over states that carry it. Assumes nothing.
-use Rattle.std.proofs.Common.{◌≡◌, ℕ, ◌+◌, ◌*◌, ◌^◌, ◌<◌, ◌≤◌, List, [], ◌∷◌, Some, None, Option, sym, refl, ap, ◌∙◌, add-zero, add_assoc, mul-le-mul_right, arith}
+use Rattle.std.proofs.Common.{◌≡◌, ℕ, ◌+◌, ◌≤◌, List, [], ◌∷◌, Some, None, Option, sym, refl, ap, ◌∙◌, add-zero, add_assoc, arith}
 use Rattle.std.proofs.lemmas.Bool.{le-ltb, ltb-false}
 use Rattle.std.specs.Option.{option_map, option_map_or, option_and_then}
 use Rattle.engine.specs.declared.gains.Tally.{Tally}
 use Rattle.engine.specs.Runs.{leads, Way}
 use Rattle.engine.specs.Problems.{Hopeless, Answered}
-use Rattle.engine.specs.Summing.{mapped_some, gain_more}
-use Rattle.engine.specs.Gaining.{Gaining, SumLaws, gained, Bound, GainAnswered, tally_step, tallied}
+use Rattle.engine.specs.Summing.{mapped_some}
+use Rattle.engine.specs.Gaining.{Gaining, gained, Bound, GainAnswered, tally_step, tallied}
 
 module _ {S : Type 0} (g : Gaining S) where
   -- the state with what choices have gained on the way to it
@@ -35,12 +35,6 @@ module _ {S : Type 0} (g : Gaining S) where
 
   pub tally_of_way : (i : ℕ) (t : Tally S) (cs : List ℕ) (e : S) → Way g.moves i t.state cs e → Way (tallied g).moves i t cs (with_gain (t.gained + gained g.moves.step g.gain i t.state cs) e)
   tally_of_way i t cs e w = record { one_each = w.one_each; ends = tally_leads cs i t ∙ ap (option_map _) w.ends }
-
-  -- what was gained so far and one more gain fit
-  pub gain_fits : SumLaws g → (i c : ℕ) (t : Tally S) (u : S) → i < g.moves.stages → (tallied g).moves.fine i t → g.moves.step i c t.state ≡ Some u → t.gained + g.gain i c t.state < 2 ^ 64
-  gain_fits sums i c t u l fine h =
-      let all : (i + 1) * g.most ≤ g.moves.stages * g.most = mul-le-mul_right g.most (omega arith) in
-      omega (arith, gain_more g sums i c t u l fine h, sums.fits)
 
   -- a bound by which nothing can be gained on the best so far
   pub bound_hopeless : (i : ℕ) (t b : Tally S) (n : ℕ) → Bound g i t.state n → t.gained + n ≤ b.gained → Hopeless (tallied g) i t b

@@ -1,7 +1,7 @@
 -- The best so far while choices are tried. Assumes nothing.
 use Rattle.std.proofs.Common.{◌≡◌, ℕ, ◌+◌, ◌-◌, ◌<◌, ◌≤◌, true, false, List, IfSome, Some, None, Option, sym, refl, ap, ◌∙◌, ⊎_elim, arith}
 use Rattle.std.proofs.lemmas.Bool.{both_ways, cases_Bool, cases_eq}
-use Rattle.engine.specs.Runs.{MoveLaws, Run}
+use Rattle.engine.specs.Runs.{MoveLaws}
 use Rattle.engine.specs.Problems.{Model, OrderLaws, Final, Answered}
 use Rattle.engine.specs.Searching.{beats, Unbeaten, Holds, Improved}
 use Rattle.engine.proofs.Ways.{way_end, way_first, fine_run}
@@ -27,11 +27,6 @@ module _ {S : Type 0} (m : Model S) where
     no_worse = λ e h. first.no_worse e (second.no_worse e h);
     untouched = λ none. absurd (grind arith);
   }
-
-  -- a run that ends ahead of the best so far takes its place
-  pub improved_by : OrderLaws m.ahead → (best : Option S) (e : S) (room room₁ : List ℕ) → beats m e best ≡ true → Run m.moves room₁ e → Improved m best room (Some e) room₁
-  improved_by order None e room room₁ ahead run = record { holds = run; no_worse = λ _ _. refl; untouched = λ none. absurd (grind arith) }
-  improved_by order (Some b) e room room₁ ahead run = record { holds = run; no_worse = λ f further. order.onward f e b further ahead; untouched = λ none. absurd (grind arith) }
 
   -- past the last stage nothing beats what the state itself doesn't beat
   pub unbeaten_end : (s : S) (best : Option S) → beats m s best ≡ false → Unbeaten m m.moves.stages s best

@@ -1,7 +1,6 @@
-use Rattle.std.proofs.Common.{◌≤◌, length, sym, ap, ◌∙◌, arith}
-use Rattle.std.proofs.lemmas.List.{length-take, length-take-le, take-replicate}
+use Rattle.std.proofs.Common.{◌≤◌, sym, ap, ◌∙◌, arith}
+use Rattle.std.proofs.lemmas.List.{length-take-le, take-replicate}
 use Rattle.passes.specs.Nights.{passes_of}
-use Rattle.passes.proofs.Checking.{checked_says}
 use Rattle.capacity.proofs.Timing.{few_dishes_from_checked}
 use Rattle.planner.specs.Dishes.{turns_of}
 use Rattle.planner.proofs.Stations.{planned_from_gain}
@@ -16,14 +15,6 @@ slice_bounds-turns-end c = four_dishes (goal.at.slice_bounds-turns-end c).After-
 
 pub slice_bounds-turns-end-2 : goal.slice_bounds-turns-end-2
 slice_bounds-turns-end-2 c = sym (length-take-le c.station-station.result.dishes _ (four_dishes (goal.at.slice_bounds-turns-end-2 c).After-station-station))
-
-pub new-requires : goal.new-requires
-new-requires c =
-    let few = (checked_says _ _ c.args.night.now.ok).few in
-    record { few_dishes = simp length-take (omega arith); few_passes = rw c.passes.ensures (omega arith) }
-
-pub plan_each-requires : goal.plan_each-requires
-plan_each-requires c = record { one_each = c.requires.one_each ∙ sym (ap length (c.new.ensures.same_passes ∙ c.passes.ensures)) }
 
 pub returns : goal.returns
 returns c =

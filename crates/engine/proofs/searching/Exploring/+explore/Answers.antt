@@ -1,13 +1,8 @@
 use Rattle.std.proofs.Common.{◌≡◌, ◌-◌, ap, ◌∙◌, arith, rules}
 use Rattle.engine.specs.Problems.{in_order}
-use Rattle.engine.proofs.Ways.{fine_came, came_all, came_more, came_front, front_kept}
+use Rattle.engine.proofs.Ways.{fine_came, came_more, came_front, front_kept}
 use Rattle.engine.proofs.Trying.{improved_none, improved_more, fine_best, tried_none, tried_refused, tried_more, tried_all}
 use Rattle.engine.proofs.searching.Exploring.+explore.Goals as goal
-
-pub keep_better-requires-clause-run : goal.keep_better-requires-clause-run
-keep_better-requires-clause-run g t c =
-    let a = c.args in
-    came_all (g.P.Decisions.moves a.self.now.problem.now) a.stage a.state a.made.now (c.if-stage-stages.true ∙ c.stages.ensures) c.requires.came
 
 pub is_hopeless-requires-clause-fine : goal.is_hopeless-requires-clause-fine
 is_hopeless-requires-clause-fine g t c =
