@@ -28,6 +28,6 @@ pub trait Decisions {
         requires fine { (moves self.now).fine stage state }
         ensures { result ≡ (moves self.now).step stage choice state };
 
-    // What is asked of them.
+    // What is asked of them, and each impl proves.
     ghost move_laws: { (x : Self) → MoveLaws (moves x) };
 }

@@ -28,7 +28,7 @@ pub trait Gains: Decisions {
         requires fine { (Self.moves self.now).fine stage state }
         ensures { Bound (gaining (Self.moves self.now) (gain self.now) (most self.now)) stage state result };
 
-    // All that can be gained together fits.
+    // What is asked of the gains, and each impl proves: all that can be gained together fits.
     ghost sum_laws: { (x : Self) → SumLaws (gaining (Self.moves x) (gain x) (most x)) };
 }
 

@@ -1,4 +1,4 @@
-// What is to be searched.
+// What a sequence of decisions is to the search.
 ghost use Rattle.std.specs.Prelude.{◌≡◌, ◌<◌, true, Bool};
 ghost use Rattle.engine.specs.Problems.{Order, OrderLaws, in_order, Final, Hopeless};
 
@@ -25,6 +25,6 @@ pub trait Problem: Decisions {
         false
     }
 
-    // What is asked of the order.
+    // What is asked of the order, and each impl proves.
     ghost order_laws: { (x : Self) → OrderLaws (ahead x) };
 }

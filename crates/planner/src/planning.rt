@@ -67,6 +67,7 @@ fn plan_night(night: &Night, room: &mut [u8]) -> u64
 }
 
 // Leaves the decisions that gain the most in the room, for dishes each of which takes its own time to turn, and answers how much that is.
+// Kept: `made` is as long as the most passes ask, and only its front is lent, since memory is fixed.
 fn plan_each(problem: &Summed<Scheduling>, room: &mut [u8]) -> u64
     requires one_each { length room.old ≡ length problem.now.gains.passes.now }
     ensures { BestGain (night_of problem.now.gains.turns.now problem.now.gains.passes.now) room.new result }

@@ -16,6 +16,7 @@ pub const MOST_PASSES: usize = 128;
 const ENTRIES: usize = MOST_PASSES + 1;
 
 // The second from which each dish is free.
+// Kept: a place for each of the most dishes, however many there are, since memory is fixed.
 #[derive(Clone, Copy)]
 pub struct FreeFrom {
     seconds: [u64; MOST_DISHES],
@@ -27,6 +28,7 @@ pub struct Scheduling<'a> {
     turns: &'a [u32],
     passes: &'a [Pass],
     // What the passes from each on are worth together.
+    // Kept: as long as the most passes ask, since memory is fixed.
     left: [u64; ENTRIES],
     ghost few_dishes: { length turns.now ≤ MOST_DISHES },
     ghost few_passes: { length passes.now ≤ MOST_PASSES },
