@@ -1,11 +1,24 @@
 -- The table of what the passes from each on are worth together. Assumes nothing.
-use Rattle.std.proofs.Common.{◌≡◌, ℕ, ◌+◌, ◌-◌, ◌*◌, ◌^◌, ◌<◌, ◌≤◌, List, length, get_or, drop, replicate, set, ap, ◌∙◌, ⊎_elim, arith}
-use Rattle.std.proofs.lemmas.List.{drop_all, get_or-replicate, get_or-set_other, get_or-set_same}
+use Rattle.std.proofs.Common.{◌≡◌, ℕ, ◌+◌, ◌-◌, ◌*◌, ◌^◌, ◌<◌, ◌≤◌, List, [], ◌∷◌, ◌++◌, length, get_or, take, drop, replicate, set, ap, sym, ◌∙◌, ⊎_elim, arith, length-append}
+use Rattle.std.proofs.lemmas.List.{drop_all, take-take, get_or-take, get_or-replicate, get_or-set_other, get_or-set_same}
+use Rattle.std.proofs.Math.Seq.{take-append_seam, get_or-append_seam}
 use Rattle.std.proofs.lemmas.List.Sums.{sum_by-drop_more}
 use Rattle.std.proofs.lemmas.Bool.{cases_eq}
 use Rattle.passes.specs.declared.model.Pass.{Pass}
 use Rattle.passes.specs.Rule.{no_pass, nth}
 use Rattle.planner.specs.Sums.{all_worth, AddsUp}
+
+-- a front of passes without its last one
+pub fronted :
+    (ps front front₁ : List Pass) (p : Pass) → front ≡ front₁ ++ (p ∷ []) → front ≡ take (length front) ps →
+    (length front ≡ length front₁ + 1) × (front₁ ≡ take (length front₁) ps) × (p ≡ nth ps (length front₁))
+fronted ps front front₁ p is of =
+    let long : length front ≡ length front₁ + 1 = ap length is ∙ length-append front₁ (p ∷ []) in
+    let n = length front₁ in (
+      long,
+      sym (take-append_seam front₁ (p ∷ [])) ∙ ap (take n) (sym is ∙ of) ∙ take-take n (length front) ps (omega arith),
+      sym (get_or-append_seam front₁ p [] no_pass) ∙ ap (λ qs. get_or qs n no_pass) (sym is ∙ of) ∙ get_or-take (length front) ps n no_pass (omega arith),
+    )
 
 -- behind all passes there is nothing
 pub adds_up_none : (ps : List Pass) (n : ℕ) → length ps < n → AddsUp ps (length ps) (replicate n 0)

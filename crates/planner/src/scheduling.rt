@@ -53,16 +53,15 @@ impl<'a> Scheduling<'a> {
     }
 }
 
-// What the passes from each on are worth together.
-// Kept: by index, from the last to the first, since each entry comes of the one behind it.
+// What the passes from each on are worth together, from the last to the first.
 fn add_up(passes: &[Pass]) -> [u64; ENTRIES]
     requires few_passes { length passes.now ≤ MOST_PASSES }
     ensures small { Small passes.now }
     ensures sums { AddsUp passes.now 0 result }
 {
     let mut left = [0; ENTRIES];
-    for i in (0..passes.len()).rev() {
-        left[i] = passes[i].worth as u64 + left[i + 1];
+    for (i, pass) in passes.iter().enumerate().rev() {
+        left[i] = pass.worth as u64 + left[i + 1];
     }
     left
 }
