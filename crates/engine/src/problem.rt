@@ -1,5 +1,5 @@
 // What a sequence of decisions is to the search.
-ghost use Rattle.std.specs.Prelude.{◌≡◌, ◌<◌, true, Bool};
+ghost use Rattle.std.specs.Prelude.{◌≡◌, ◌<◌, true};
 ghost use Rattle.engine.specs.Problems.{Order, OrderLaws, in_order, Final, Hopeless};
 
 use crate::decisions::Decisions;

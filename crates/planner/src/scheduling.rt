@@ -1,5 +1,5 @@
 // A night as a sequence of decisions: on each pass, in order of begin, which dish follows it, if any.
-ghost use Rattle.std.specs.Prelude.{◌≡◌, ◌<◌, ◌≤◌, length};
+ghost use Rattle.std.specs.Prelude.{◌≡◌, ◌≤◌, length};
 ghost use Rattle.planner.specs.declared.scheduling.TheConstants.{MOST_DISHES, MOST_PASSES};
 ghost use Rattle.planner.specs.Sums.{Small, AddsUp};
 ghost use Rattle.planner.specs.Nights.{night};
