@@ -1,16 +1,12 @@
 -- What is gained along a run, and the same over states that carry it. Assumes nothing.
-use Rattle.std.proofs.Common.{◌≡◌, ℕ, ◌+◌, ◌*◌, ◌^◌, ◌<◌, ◌≤◌, List, [], ◌∷◌, Some, None, Option, sym, refl, ap, ◌∙◌, add-zero, add_assoc, mul-le-mul_right, add-mul, one-mul, arith}
-use Rattle.std.proofs.lemmas.Bool.{le-ltb, lt-ltb, ltb-true, ltb-false}
-use Rattle.std.specs.Option.{option_map}
+use Rattle.std.proofs.Common.{◌≡◌, ℕ, ◌+◌, ◌≤◌, List, [], ◌∷◌, Some, None, Option, sym, refl, ap, ◌∙◌, add-zero, add_assoc, arith}
+use Rattle.std.proofs.lemmas.Bool.{le-ltb, ltb-false}
+use Rattle.std.specs.Option.{option_map, option_map_or, option_and_then}
 use Rattle.engine.specs.declared.gains.Tally.{Tally}
-use Rattle.engine.specs.Runs.{and_then, leads, Way}
-use Rattle.engine.specs.Problems.{Laws, Hopeless, Answered}
-use Rattle.engine.specs.Gaining.{Gaining, GainLaws, gained, if_any, Bound, GainAnswered, tally_step, tallied}
-
--- a value that a function was applied to, if there was one
-pub mapped_some : {X Y : Type 0} (f : X → Y) (o : Option X) (y : Y) → option_map f o ≡ Some y → (x : X) × (o ≡ Some x) × (y ≡ f x)
-mapped_some f None y h = absurd (grind arith)
-mapped_some f (Some x) y h = (x, refl, grind arith)
+use Rattle.engine.specs.Runs.{leads, Way}
+use Rattle.engine.specs.Problems.{Hopeless, Answered}
+use Rattle.engine.specs.Summing.{mapped_some}
+use Rattle.engine.specs.Gaining.{Gaining, gained, Bound, GainAnswered, tally_step, tallied}
 
 module _ {S : Type 0} (g : Gaining S) where
   -- the state with what choices have gained on the way to it
@@ -26,8 +22,8 @@ module _ {S : Type 0} (g : Gaining S) where
       by_step :
           (o : Option S) →
           ((u : S) → leads (tally_step g) (i + 1) (with_gain (t.gained + g.gain i c t.state) u) cs ≡ option_map (with_gain (t.gained + g.gain i c t.state + gained g.moves.step g.gain (i + 1) u cs)) (leads g.moves.step (i + 1) u cs)) →
-          and_then (option_map (with_gain (t.gained + g.gain i c t.state)) o) (λ u. leads (tally_step g) (i + 1) u cs)
-          ≡ option_map (with_gain (t.gained + (g.gain i c t.state + if_any o (λ u. gained g.moves.step g.gain (i + 1) u cs)))) (and_then o (λ u. leads g.moves.step (i + 1) u cs))
+          option_and_then (λ u. leads (tally_step g) (i + 1) u cs) (option_map (with_gain (t.gained + g.gain i c t.state)) o)
+          ≡ option_map (with_gain (t.gained + (g.gain i c t.state + option_map_or (λ u. gained g.moves.step g.gain (i + 1) u cs) o 0))) (option_and_then (λ u. leads g.moves.step (i + 1) u cs) o)
       by_step None rest = refl
       by_step (Some u) rest = rest u ∙ ap (λ n. option_map (with_gain n) (leads g.moves.step (i + 1) u cs)) (add_assoc t.gained (g.gain i c t.state) (gained g.moves.step g.gain (i + 1) u cs))
 
@@ -39,31 +35,6 @@ module _ {S : Type 0} (g : Gaining S) where
 
   pub tally_of_way : (i : ℕ) (t : Tally S) (cs : List ℕ) (e : S) → Way g.moves i t.state cs e → Way (tallied g).moves i t cs (with_gain (t.gained + gained g.moves.step g.gain i t.state cs) e)
   tally_of_way i t cs e w = record { one_each = w.one_each; ends = tally_leads cs i t ∙ ap (option_map _) w.ends }
-
-  -- what was gained so far and one more gain fit
-  pub gain_more : GainLaws g → (i c : ℕ) (t : Tally S) (u : S) → i < g.moves.stages → (tallied g).moves.fine i t → g.moves.step i c t.state ≡ Some u → t.gained + g.gain i c t.state ≤ (i + 1) * g.most
-  gain_more laws i c t u l fine h =
-      let one = laws.at_most i c t.state u l fine.0 h in
-      let count = add-mul i 1 g.most in
-      omega (arith, fine.1, one-mul g.most)
-
-  pub gain_fits : GainLaws g → (i c : ℕ) (t : Tally S) (u : S) → i < g.moves.stages → (tallied g).moves.fine i t → g.moves.step i c t.state ≡ Some u → t.gained + g.gain i c t.state < 2 ^ 64
-  gain_fits laws i c t u l fine h =
-      let all : (i + 1) * g.most ≤ g.moves.stages * g.most = mul-le-mul_right g.most (omega arith) in
-      omega (arith, gain_more laws i c t u l fine h, laws.fits)
-
-  pub tally_laws : GainLaws g → Laws (tallied g)
-  tally_laws laws = record {
-    moves = record {
-      fine_start = (laws.moves.fine_start, omega arith);
-      fine_step = λ i c t u l fine h.
-          let end = mapped_some _ (g.moves.step i c t.state) u h in
-          rw end.2 (laws.moves.fine_step i c t.state end.0 l fine.0 end.1, gain_more laws i c t end.0 l fine end.1);
-      offered = λ i c t u l fine h. let end = mapped_some _ (g.moves.step i c t.state) u h in laws.moves.offered i c t.state end.0 l fine.0 end.1;
-    };
-    not_itself = λ t. le-ltb _ _ (omega arith);
-    onward = λ s t u h k. lt-ltb _ _ (omega (arith, ltb-true _ _ h, ltb-true _ _ k));
-  }
 
   -- a bound by which nothing can be gained on the best so far
   pub bound_hopeless : (i : ℕ) (t b : Tally S) (n : ℕ) → Bound g i t.state n → t.gained + n ≤ b.gained → Hopeless (tallied g) i t b

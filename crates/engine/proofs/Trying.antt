@@ -1,8 +1,8 @@
 -- The best so far while choices are tried. Assumes nothing.
 use Rattle.std.proofs.Common.{◌≡◌, ℕ, ◌+◌, ◌-◌, ◌<◌, ◌≤◌, true, false, List, IfSome, Some, None, Option, sym, refl, ap, ◌∙◌, ⊎_elim, arith}
 use Rattle.std.proofs.lemmas.Bool.{both_ways, cases_Bool, cases_eq}
-use Rattle.engine.specs.Runs.{Run}
-use Rattle.engine.specs.Problems.{Model, Laws, Final, Answered}
+use Rattle.engine.specs.Runs.{MoveLaws}
+use Rattle.engine.specs.Problems.{Model, OrderLaws, Final, Answered}
 use Rattle.engine.specs.Searching.{beats, Unbeaten, Holds, Improved}
 use Rattle.engine.proofs.Ways.{way_end, way_first, fine_run}
 
@@ -15,32 +15,27 @@ module _ {S : Type 0} (m : Model S) where
   pub improved_none : (best : Option S) (room : List ℕ) → Holds m best room → Improved m best room best room
   improved_none best room holds = record { holds = holds; no_worse = λ e h. h; untouched = λ _. refl }
 
-  pub improved_more : Laws m → (best best₁ best₂ : Option S) (room room₁ room₂ : List ℕ) → Improved m best room best₁ room₁ → Improved m best₁ room₁ best₂ room₂ → Improved m best room best₂ room₂
-  improved_more laws best None best₂ room room₁ room₂ first second = record {
+  pub improved_more : OrderLaws m.ahead → (best best₁ best₂ : Option S) (room room₁ room₂ : List ℕ) → Improved m best room best₁ room₁ → Improved m best₁ room₁ best₂ room₂ → Improved m best room best₂ room₂
+  improved_more order best None best₂ room room₁ room₂ first second = record {
     holds = second.holds;
     no_worse = λ e h. first.no_worse e (second.no_worse e h);
     untouched = λ none. second.untouched none ∙ first.untouched refl;
   }
-  improved_more laws best (Some b) None room room₁ room₂ first second = absurd (both_ways _ (laws.not_itself b) (second.no_worse b refl))
-  improved_more laws best (Some b) (Some b₂) room room₁ room₂ first second = record {
+  improved_more order best (Some b) None room room₁ room₂ first second = absurd (both_ways _ (order.not_itself b) (second.no_worse b refl))
+  improved_more order best (Some b) (Some b₂) room room₁ room₂ first second = record {
     holds = second.holds;
     no_worse = λ e h. first.no_worse e (second.no_worse e h);
     untouched = λ none. absurd (grind arith);
   }
-
-  -- a run that ends ahead of the best so far takes its place
-  pub improved_by : Laws m → (best : Option S) (e : S) (room room₁ : List ℕ) → beats m e best ≡ true → Run m.moves room₁ e → Improved m best room (Some e) room₁
-  improved_by laws None e room room₁ ahead run = record { holds = run; no_worse = λ _ _. refl; untouched = λ none. absurd (grind arith) }
-  improved_by laws (Some b) e room room₁ ahead run = record { holds = run; no_worse = λ f further. laws.onward f e b further ahead; untouched = λ none. absurd (grind arith) }
 
   -- past the last stage nothing beats what the state itself doesn't beat
   pub unbeaten_end : (s : S) (best : Option S) → beats m s best ≡ false → Unbeaten m m.moves.stages s best
   unbeaten_end s best behind cs e w = rw (way_end m.moves s cs e w) behind
 
   -- the best so far is a final state
-  pub fine_best : Laws m → (best : Option S) (room : List ℕ) → Holds m best room → IfSome best (Final m)
+  pub fine_best : MoveLaws m.moves → (best : Option S) (room : List ℕ) → Holds m best room → IfSome best (Final m)
   fine_best laws None room holds = tt
-  fine_best laws (Some b) room holds = fine_run m.moves laws.moves room b holds
+  fine_best laws (Some b) room holds = fine_run m.moves laws room b holds
 
   -- from every state that a choice from k on leads to, no way on beats the best so far
   abbrev pub Tried : ℕ → S → ℕ → Option S → Type 0
@@ -69,10 +64,15 @@ module _ {S : Type 0} (m : Model S) where
       tried first.choice first.next (omega arith) first.step first.rest e first.way
 
   -- none is offered past the last choice
-  pub tried_none : Laws m → (i : ℕ) (s : S) (best : Option S) → i < m.moves.stages → m.moves.fine i s → Tried i s (m.moves.choices i) best
-  tried_none laws i s best l fine c t past h = absurd (omega (arith, laws.moves.offered i c s t l fine h))
+  pub tried_none : MoveLaws m.moves → (i : ℕ) (s : S) (best : Option S) → i < m.moves.stages → m.moves.fine i s → Tried i s (m.moves.choices i) best
+  tried_none laws i s best l fine c t past h = absurd (omega (arith, laws.offered i c s t l fine h))
 
-  -- what the search ends with
-  pub answered : (room room₁ : List ℕ) (best : Option S) → Improved m None room best room₁ → Unbeaten m 0 m.moves.start best → Answered m room best room₁
-  answered room room₁ None better none = (λ cs e r. both_ways true (none cs e r) refl, better.untouched refl)
-  answered room room₁ (Some b) better none = record { run = better.holds; best = none }
+  -- what the search ends with, and hands on
+  pub answered :
+      (room after : List ℕ) (end : Option S) (room₁ : List ℕ) (best : Option S) → after ≡ room₁ → end ≡ best →
+      Improved m None room best room₁ → Unbeaten m 0 m.moves.start best → Answered m room end after
+  answered room after end room₁ best same same₁ better none = rw (same, same₁) (by_best best better none)
+    where
+      by_best : (best : Option S) → Improved m None room best room₁ → Unbeaten m 0 m.moves.start best → Answered m room best room₁
+      by_best None better none = (λ cs e r. both_ways true (none cs e r) refl, better.untouched refl)
+      by_best (Some b) better none = record { run = better.holds; best = none }

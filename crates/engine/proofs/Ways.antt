@@ -1,6 +1,6 @@
 -- Ways on from a state: their first choice, and what holds along them. Assumes nothing.
 use Rattle.std.proofs.Common.{◌≡◌, ℕ, ◌+◌, ◌<◌, ◌≤◌, List, [], ◌∷◌, length, take, set, Some, sym, ap, ◌∙◌, add-zero, arith}
-use Rattle.std.proofs.lemmas.List.{length-take-le, take_all, take_more_set, take-set, take-take, length-set}
+use Rattle.std.proofs.lemmas.List.{length-take-le, take_more_set, take-set, take-take, length-set}
 use Rattle.engine.specs.Runs.{Moves, MoveLaws, leads, Way, Run}
 use Rattle.engine.specs.Searching.{Came}
 use Rattle.engine.proofs.Leading.{leads_first, leads_push}
@@ -44,13 +44,6 @@ module _ {S : Type 0} (v : Moves S) where
         let long = length-take-le i made (omega (arith, came.within, came.a_place_each)) in
         let count : 0 + length (take i made) ≡ i = omega arith in
         rw count at (fine_along (take i made) 0 v.start s (omega (arith, came.within)) laws.fine_start came.leads_here)
-
-  -- whoever came to the last stage has made a run
-  pub came_all : (i : ℕ) (s : S) (made : List ℕ) → i ≡ v.stages → Came v i s made → Run v made s
-  came_all i s made last came = record {
-    one_each = omega (arith, came.a_place_each);
-    ends = rw (take_all i made (omega (arith, came.a_place_each))) at came.leads_here;
-  }
 
   -- one choice more
   pub came_more : (i : ℕ) (s : S) (made : List ℕ) (c : ℕ) (t : S) → i < v.stages → Came v i s made → v.step i c s ≡ Some t → Came v (i + 1) t (set made i c)

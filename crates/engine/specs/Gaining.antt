@@ -1,9 +1,9 @@
 -- Decisions that gain something. Assumes nothing: these are definitions.
 use Rattle.std.specs.Prelude.{◌≡◌, ℕ, ◌+◌, ◌*◌, ◌^◌, ◌<◌, ◌≤◌, List, [], ◌∷◌, Some, None, Option, nat_lt}
-use Rattle.std.specs.Option.{option_map}
+use Rattle.std.specs.Option.{option_map, option_map_or}
 use Rattle.engine.specs.declared.gains.Tally.{Tally}
-use Rattle.engine.specs.Runs.{Step, Moves, MoveLaws, Way, Run}
-use Rattle.engine.specs.Problems.{Model}
+use Rattle.engine.specs.Runs.{Step, Moves, Way, Run}
+use Rattle.engine.specs.Problems.{Model, Order, in_order}
 
 -- what a choice gains, at a stage and in a state
 abbrev pub Gain : Type 0 → Type 0
@@ -16,21 +16,19 @@ pub record Gaining (S : Type 0) : Type 1 where
   -- no choice gains more
   pub most : ℕ
 
--- what is asked of it: all that can be gained together is below 2^64
-pub record GainLaws {S : Type 0} (g : Gaining S) : Type 0 where
-  pub moves : MoveLaws g.moves
+-- these decisions, by which that is gained
+abbrev pub gaining : {S : Type 0} → Moves S → Gain S → ℕ → Gaining S
+gaining v gain most = record { moves = v; gain = gain; most = most }
+
+-- what is asked of what is gained: all that can be gained together is below 2^64
+pub record SumLaws {S : Type 0} (g : Gaining S) : Type 0 where
   pub at_most : (i c : ℕ) (s t : S) → i < g.moves.stages → g.moves.fine i s → g.moves.step i c s ≡ Some t → g.gain i c s ≤ g.most
   pub fits : g.moves.stages * g.most < 2 ^ 64
-
--- a number that comes of a state, if there is one
-abbrev pub if_any : {S : Type 0} → Option S → (S → ℕ) → ℕ
-if_any None f = 0
-if_any (Some s) f = f s
 
 -- what choices gain together from the state s of stage i on
 unfoldable pub gained : {S : Type 0} → Step S → Gain S → ℕ → S → List ℕ → ℕ
 gained step gain i s [] = 0
-gained step gain i s (c ∷ cs) = gain i c s + if_any (step i c s) (λ t. gained step gain (i + 1) t cs)
+gained step gain i s (c ∷ cs) = gain i c s + option_map_or (λ t. gained step gain (i + 1) t cs) (step i c s) 0
 
 -- what the choices of a run gain together
 abbrev pub gained_by : {S : Type 0} → Gaining S → List ℕ → ℕ
@@ -58,14 +56,17 @@ tally_start g = record { state = g.moves.start; gained = 0 }
 abbrev pub tally_step : {S : Type 0} → Gaining S → Step (Tally S)
 tally_step g i c t = option_map (λ u. record { state = u; gained = t.gained + g.gain i c t.state }) (g.moves.step i c t.state)
 
-abbrev pub tallied : {S : Type 0} → Gaining S → Model (Tally S)
-tallied g = record {
-  moves = record {
-    stages = g.moves.stages;
-    choices = g.moves.choices;
-    start = tally_start g;
-    step = tally_step g;
-    fine = λ i t. g.moves.fine i t.state × (t.gained ≤ i * g.most);
-  };
-  ahead = λ t u. nat_lt u.gained t.gained;
+abbrev pub tally_moves : {S : Type 0} → Gaining S → Moves (Tally S)
+tally_moves g = record {
+  stages = g.moves.stages;
+  choices = g.moves.choices;
+  start = tally_start g;
+  step = tally_step g;
+  fine = λ i t. g.moves.fine i t.state × (t.gained ≤ i * g.most);
 }
+
+abbrev pub tally_order : {S : Type 0} → Order (Tally S)
+tally_order t u = nat_lt u.gained t.gained
+
+abbrev pub tallied : {S : Type 0} → Gaining S → Model (Tally S)
+tallied g = in_order (tally_moves g) tally_order

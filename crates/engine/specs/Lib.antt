@@ -2,3 +2,4 @@ pub mod Runs
 pub mod Problems
 pub mod Searching
 pub mod Gaining
+pub mod Summing

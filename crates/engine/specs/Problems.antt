@@ -1,17 +1,24 @@
 -- Which runs are best. Assumes nothing: these are definitions.
 use Rattle.std.specs.Prelude.{◌≡◌, ℕ, Bool, true, false, List, Some, None, Option}
-use Rattle.engine.specs.Runs.{Moves, MoveLaws, Way, Run}
+use Rattle.engine.specs.Runs.{Moves, Way, Run}
+
+-- which of two states is the better one
+abbrev pub Order : Type 0 → Type 0
+Order S = S → S → Bool
+
+-- what is asked of it: no state is ahead of itself, and who is ahead of one is ahead of all behind that one
+pub record OrderLaws {S : Type 0} (ahead : Order S) : Type 0 where
+  pub not_itself : (s : S) → ahead s s ≡ false
+  pub onward : (s t u : S) → ahead s t ≡ true → ahead t u ≡ true → ahead s u ≡ true
 
 -- a sequence of decisions, and which of two final states is the better one
 pub record Model (S : Type 0) : Type 1 where
   pub moves : Moves S
-  pub ahead : S → S → Bool
+  pub ahead : Order S
 
--- what is asked of it: no state is ahead of itself, and who is ahead of one is ahead of all behind that one
-pub record Laws {S : Type 0} (m : Model S) : Type 0 where
-  pub moves : MoveLaws m.moves
-  pub not_itself : (s : S) → m.ahead s s ≡ false
-  pub onward : (s t u : S) → m.ahead s t ≡ true → m.ahead t u ≡ true → m.ahead s u ≡ true
+-- these decisions with that order
+abbrev pub in_order : {S : Type 0} → Moves S → Order S → Model S
+in_order v ahead = record { moves = v; ahead = ahead }
 
 -- what holds of every final state
 abbrev pub Final : {S : Type 0} → Model S → S → Type 0

@@ -1,19 +1,14 @@
 -- Sequences of decisions and their runs. Assumes nothing: these are definitions.
-use Rattle.std.specs.Prelude.{◌≡◌, ℕ, ◌+◌, ◌<◌, List, [], ◌∷◌, length, Some, None, Option}
+use Rattle.std.specs.Prelude.{◌≡◌, ℕ, ◌+◌, ◌<◌, List, [], ◌∷◌, length, Some, Option, option_and_then}
 
 -- a step: from a stage, a choice and a state to the next state, or nowhere if the choice isn't allowed
 abbrev pub Step : Type 0 → Type 0
 Step S = ℕ → ℕ → S → Option S
 
--- goes on from a state, if there is one
-abbrev pub and_then : {S T : Type 0} → Option S → (S → Option T) → Option T
-and_then None f = None
-and_then (Some s) f = f s
-
 -- the state to which choices lead from the state s of stage i, one choice to a stage; nowhere if one of them isn't allowed
 unfoldable pub leads : {S : Type 0} → Step S → ℕ → S → List ℕ → Option S
 leads step i s [] = Some s
-leads step i s (c ∷ cs) = and_then (step i c s) (λ t. leads step (i + 1) t cs)
+leads step i s (c ∷ cs) = option_and_then (λ t. leads step (i + 1) t cs) (step i c s)
 
 -- a sequence of decisions over states S
 pub record Moves (S : Type 0) : Type 1 where

@@ -1,52 +1,35 @@
 // Decisions that gain something: the run that gains the most.
-ghost use Rattle.std.specs.Prelude.{◌≡◌, ◌<◌, true, length, is_some};
-ghost use Rattle.engine.specs.Gaining.{Gaining, GainLaws, Bound, GainAnswered, tallied};
+ghost use Rattle.std.specs.Prelude.{◌≡◌, ℕ, ◌<◌, true, length, is_some};
+ghost use Rattle.engine.specs.Gaining.{Gain, gaining, SumLaws, Bound, GainAnswered, tally_moves, tally_order};
+ghost use Rattle.engine.specs.Summing.{tally_move_laws, tally_order_laws};
 
+use crate::decisions::Decisions;
 use crate::problem::Problem;
 use crate::searching::search;
 
 // A sequence of decisions by which something is gained, in whole numbers that add up.
-pub trait Gains {
-    type State: Copy;
+pub trait Gains: Decisions {
+    // What a choice gains.
+    ghost gain: { Self → Gain Self.State };
 
-    // What the methods answer.
-    ghost gaining: { Self → Gaining Self.State };
-
-    // Does nothing: its contract has the laws.
-    fn lawful(&self)
-        ensures { GainLaws (gaining self.now) };
-
-    // How many decisions there are.
-    fn stages(&self) -> usize
-        ensures { result ≡ (gaining self.now).moves.stages };
-
-    // How many choices there are at a stage.
-    fn choices(&self, stage: usize) -> u8
-        requires { stage < (gaining self.now).moves.stages }
-        ensures { result ≡ (gaining self.now).moves.choices stage };
-
-    fn start(&self) -> Self::State
-        ensures { result ≡ (gaining self.now).moves.start };
-
-    // The state to which a choice leads, unless it isn't allowed.
-    fn step(&self, stage: usize, choice: u8, state: Self::State) -> Option<Self::State>
-        requires within { stage < (gaining self.now).moves.stages }
-        requires offered { choice < (gaining self.now).moves.choices stage }
-        requires fine { (gaining self.now).moves.fine stage state }
-        ensures { result ≡ (gaining self.now).moves.step stage choice state };
+    // No choice gains more.
+    ghost most: { Self → ℕ };
 
     // What a choice that is allowed gains.
     fn gain(&self, stage: usize, choice: u8, state: Self::State) -> u64
-        requires within { stage < (gaining self.now).moves.stages }
-        requires allowed { is_some ((gaining self.now).moves.step stage choice state) ≡ true }
-        requires fine { (gaining self.now).moves.fine stage state }
-        ensures { result ≡ (gaining self.now).gain stage choice state };
+        requires within { stage < (Self.moves self.now).stages }
+        requires allowed { is_some ((Self.moves self.now).step stage choice state) ≡ true }
+        requires fine { (Self.moves self.now).fine stage state }
+        ensures { result ≡ gain self.now stage choice state };
 
     // At least what any way on from a state gains. The lower it is, the more the search leaves out.
     fn bound(&self, stage: usize, state: Self::State) -> u64
-        requires within { stage < (gaining self.now).moves.stages }
-        requires fine { (gaining self.now).moves.fine stage state }
-        ensures { Bound (gaining self.now) stage state result };
+        requires within { stage < (Self.moves self.now).stages }
+        requires fine { (Self.moves self.now).fine stage state }
+        ensures { Bound (gaining (Self.moves self.now) (gain self.now) (most self.now)) stage state result };
+
+    // What is asked of the gains, and each impl proves: all that can be gained together fits.
+    ghost sum_laws: { (x : Self) → SumLaws (gaining (Self.moves x) (gain x) (most x)) };
 }
 
 // A state, and what was gained on the way to it.
@@ -62,14 +45,12 @@ pub struct Summed<G> {
     pub gains: G,
 }
 
-impl<G: Gains> Problem for Summed<G> {
+impl<G: Gains> Decisions for Summed<G> {
     type State = Tally<G::State>;
 
-    ghost model = { λ p. tallied (G.Gains.gaining p.gains) };
+    ghost moves = { λ p. tally_moves (gaining (G.moves p.gains) (G.gain p.gains) (G.most p.gains)) };
 
-    fn lawful(&self) {
-        self.gains.lawful();
-    }
+    ghost move_laws = { λ p. tally_move_laws (gaining (G.moves p.gains) (G.gain p.gains) (G.most p.gains)) (G.move_laws p.gains) (G.sum_laws p.gains) };
 
     fn stages(&self) -> usize {
         self.gains.stages()
@@ -87,15 +68,18 @@ impl<G: Gains> Problem for Summed<G> {
     }
 
     fn step(&self, stage: usize, choice: u8, at: Tally<G::State>) -> Option<Tally<G::State>> {
-        self.gains.lawful();
-        match self.gains.step(stage, choice, at.state) {
-            Some(state) => Some(Tally {
-                state,
-                gained: at.gained + self.gains.gain(stage, choice, at.state),
-            }),
-            None => None,
-        }
+        let state = self.gains.step(stage, choice, at.state)?;
+        Some(Tally {
+            state,
+            gained: at.gained + self.gains.gain(stage, choice, at.state),
+        })
     }
+}
+
+impl<G: Gains> Problem for Summed<G> {
+    ghost ahead = { λ p. tally_order };
+
+    ghost order_laws = { λ p. tally_order_laws };
 
     fn is_ahead(&self, state: Tally<G::State>, other: Tally<G::State>) -> bool {
         state.gained > other.gained
@@ -109,12 +93,9 @@ impl<G: Gains> Problem for Summed<G> {
 // Leaves a run that gains the most in the room and answers how much that is, or answers that there is no run at all and leaves the room as it
 // was. What is left in `made` means nothing.
 pub fn gain_most<G: Gains>(problem: &Summed<G>, made: &mut [u8], room: &mut [u8]) -> Option<u64>
-    requires a_place_each { length made.old ≡ (G.Gains.gaining problem.now.gains).moves.stages }
-    requires one_each { length room.old ≡ (G.Gains.gaining problem.now.gains).moves.stages }
-    ensures { GainAnswered (G.Gains.gaining problem.now.gains) room.old result room.new }
+    requires a_place_each { length made.old ≡ (G.moves problem.now.gains).stages }
+    requires one_each { length room.old ≡ (G.moves problem.now.gains).stages }
+    ensures { GainAnswered (gaining (G.moves problem.now.gains) (G.gain problem.now.gains) (G.most problem.now.gains)) room.old result room.new }
 {
-    match search(problem, made, room) {
-        Some(end) => Some(end.gained),
-        None => None,
-    }
+    search(problem, made, room).map(|end| end.gained)
 }

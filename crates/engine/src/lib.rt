@@ -1,10 +1,12 @@
 // The best run of any sequence of decisions.
 #![tactic(auto)]
 
+mod decisions;
 mod gains;
 mod problem;
 mod searching;
 
+pub use decisions::Decisions;
 pub use gains::{Gains, Summed, Tally, gain_most};
 pub use problem::Problem;
 pub use searching::search;

@@ -1,88 +1,84 @@
 // The search: depth first, through all choices of all stages.
-ghost use Rattle.std.specs.Prelude.{◌≡◌, ◌<◌, true, length, take, IfSome};
+ghost use Rattle.std.specs.Prelude.{◌≡◌, length, take};
 ghost use Rattle.engine.specs.Runs.{Run};
-ghost use Rattle.engine.specs.Problems.{Laws, Final, Answered};
+ghost use Rattle.engine.specs.Problems.{in_order, Answered};
 ghost use Rattle.engine.specs.Searching.{Unbeaten, Holds, Came, Improved};
 
 use crate::problem::Problem;
 
+// A search under way: the best final state so far, and the room, which holds a run to it.
+#[derive(Drop)]
+struct Exploring<'a, P: Problem> {
+    problem: &'a P,
+    room: &'a mut [u8],
+    best: &'a mut Option<P::State>,
+    ghost one_each: { length room.now ≡ (P.moves problem.now).stages },
+}
+
+impl<P: Problem> Exploring<'_, P> {
+    // Tries every way on from a state, to which the choices made so far lead.
+    // Kept: `made` beside the struct. As a field that `keep_better` lends to `copy_from_slice` it was tried, and the goal that it is as it was
+    // then stayed open.
+    fn explore(&mut self, stage: usize, state: P::State, made: &mut [u8])
+        requires came { Came (P.moves self.old.problem.now) stage state made.old }
+        requires holds { Holds (in_order (P.moves self.old.problem.now) (P.ahead self.old.problem.now)) self.old.best.now self.old.room.now }
+        ensures same_problem { self.new.problem ≡ self.old.problem }
+        ensures same_room { self.new.room.ghost_name ≡ self.old.room.ghost_name }
+        ensures same_best { self.new.best.ghost_name ≡ self.old.best.ghost_name }
+        ensures improved { Improved (in_order (P.moves self.old.problem.now) (P.ahead self.old.problem.now)) self.old.best.now self.old.room.now self.new.best.now self.new.room.now }
+        ensures unbeaten { Unbeaten (in_order (P.moves self.old.problem.now) (P.ahead self.old.problem.now)) stage state self.new.best.now }
+        ensures same_front { take stage made.new ≡ take stage made.old }
+    {
+        let problem = self.problem;
+        if stage == problem.stages() {
+            return self.keep_better(state, made);
+        }
+        if let Some(best) = *self.best
+            && problem.is_hopeless(stage, state, best)
+        {
+            return;
+        }
+        for choice in (0..problem.choices(stage)).rev() {
+            if let Some(next) = problem.step(stage, choice, state) {
+                made[stage] = choice;
+                self.explore(stage + 1, next, made);
+            }
+        }
+    }
+
+    // Keeps the run that was made if it ends ahead of the best so far.
+    fn keep_better(&mut self, state: P::State, made: &[u8])
+        requires run { Run (P.moves self.old.problem.now) made.now state }
+        requires holds { Holds (in_order (P.moves self.old.problem.now) (P.ahead self.old.problem.now)) self.old.best.now self.old.room.now }
+        ensures same_problem { self.new.problem ≡ self.old.problem }
+        ensures same_room { self.new.room.ghost_name ≡ self.old.room.ghost_name }
+        ensures same_best { self.new.best.ghost_name ≡ self.old.best.ghost_name }
+        ensures improved { Improved (in_order (P.moves self.old.problem.now) (P.ahead self.old.problem.now)) self.old.best.now self.old.room.now self.new.best.now self.new.room.now }
+        ensures unbeaten { Unbeaten (in_order (P.moves self.old.problem.now) (P.ahead self.old.problem.now)) (P.moves self.old.problem.now).stages state self.new.best.now }
+    {
+        if let Some(best) = *self.best
+            && !self.problem.is_ahead(state, best)
+        {
+            return;
+        }
+        self.room.copy_from_slice(made);
+        *self.best = Some(state);
+    }
+}
+
 // Leaves a best run in the room and answers its final state, or answers that there is no run at all and leaves the room as it was. What is left
 // in `made`, where the search writes the choices that it tries, means nothing.
 pub fn search<P: Problem>(problem: &P, made: &mut [u8], room: &mut [u8]) -> Option<P::State>
-    requires a_place_each { length made.old ≡ (P.Problem.model problem.now).moves.stages }
-    requires one_each { length room.old ≡ (P.Problem.model problem.now).moves.stages }
-    ensures { Answered (P.Problem.model problem.now) room.old result room.new }
+    requires a_place_each { length made.old ≡ (P.moves problem.now).stages }
+    requires one_each { length room.old ≡ (P.moves problem.now).stages }
+    ensures { Answered (in_order (P.moves problem.now) (P.ahead problem.now)) room.old result room.new }
 {
-    problem.lawful();
-    explore(problem, 0, problem.start(), made, room, None)
-}
-
-// Tries every way on from a state, and answers the best final state there is then, which the room holds a run to.
-fn explore<P: Problem>(
-    problem: &P,
-    stage: usize,
-    state: P::State,
-    made: &mut [u8],
-    room: &mut [u8],
-    best: Option<P::State>,
-) -> Option<P::State>
-    requires laws { Laws (P.Problem.model problem.now) }
-    requires came { Came (P.Problem.model problem.now).moves stage state made.old }
-    requires one_each { length room.old ≡ (P.Problem.model problem.now).moves.stages }
-    requires holds { Holds (P.Problem.model problem.now) best room.old }
-    ensures improved { Improved (P.Problem.model problem.now) best room.old result room.new }
-    ensures unbeaten { Unbeaten (P.Problem.model problem.now) stage state result }
-    ensures same_front { take stage made.new ≡ take stage made.old }
-{
-    if stage == problem.stages() {
-        return keep_better(problem, state, made, room, best);
-    }
-    if can_stop(problem, stage, state, best) {
-        return best;
-    }
-    let mut best = best;
-    for choice in (0..problem.choices(stage)).rev() {
-        if let Some(next) = problem.step(stage, choice, state) {
-            made[stage] = choice;
-            best = explore(problem, stage + 1, next, made, room, best);
-        }
-    }
+    let mut best = None;
+    let mut exploring = Exploring {
+        problem,
+        room,
+        best: &mut best,
+    };
+    exploring.explore(0, problem.start(), made);
     best
-}
-
-// Whether it is sure that no way on from a state ends ahead of the best so far.
-fn can_stop<P: Problem>(problem: &P, stage: usize, state: P::State, best: Option<P::State>) -> bool
-    requires within { stage < (P.Problem.model problem.now).moves.stages }
-    requires fine { (P.Problem.model problem.now).moves.fine stage state }
-    requires best_fine { IfSome best (Final (P.Problem.model problem.now)) }
-    ensures { result ≡ true → Unbeaten (P.Problem.model problem.now) stage state best }
-{
-    match best {
-        Some(best) => problem.is_hopeless(stage, state, best),
-        None => false,
-    }
-}
-
-// Keeps the run that was made if it ends ahead of the best so far.
-fn keep_better<P: Problem>(
-    problem: &P,
-    state: P::State,
-    made: &[u8],
-    room: &mut [u8],
-    best: Option<P::State>,
-) -> Option<P::State>
-    requires laws { Laws (P.Problem.model problem.now) }
-    requires run { Run (P.Problem.model problem.now).moves made.now state }
-    requires one_each { length room.old ≡ (P.Problem.model problem.now).moves.stages }
-    requires holds { Holds (P.Problem.model problem.now) best room.old }
-    ensures improved { Improved (P.Problem.model problem.now) best room.old result room.new }
-    ensures unbeaten { Unbeaten (P.Problem.model problem.now) (P.Problem.model problem.now).moves.stages state result }
-{
-    if let Some(best) = best {
-        if !problem.is_ahead(state, best) {
-            return Some(best);
-        }
-    }
-    room.copy_from_slice(made);
-    Some(state)
 }

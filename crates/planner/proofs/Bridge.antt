@@ -3,7 +3,6 @@ use Rattle.std.proofs.Common.{◌≡◌, ℕ, zero, suc, ◌+◌, ◌-◌, ◌<�
 use Rattle.std.proofs.lemmas.List.{get_or-set_same, get_or-set_other, length-set}
 use Rattle.std.proofs.lemmas.Bool.{and_from, and_parts, both_ways, cases_eq}
 use Rattle.std.proofs.lemmas.Bool.Decides.{nat_tests}
-use Rattle.engine.proofs.Leading.{and_then_some}
 use Rattle.passes.specs.declared.model.Pass.{Pass}
 use Rattle.passes.specs.Follow.{may}
 use Rattle.passes.specs.Plans.{Plan, free_for, fits_one}
@@ -13,7 +12,7 @@ use Rattle.capacity.specs.Order.{InTime}
 use Rattle.planner.specs.declared.scheduling.FreeFrom.{FreeFrom}
 use Rattle.planner.specs.Dishes.{seen_by, fits_each}
 use Rattle.planner.specs.Nights.{after_following, decide}
-use Rattle.planner.proofs.Following.{follow}
+use Rattle.planner.proofs.Following.{follow, follow_first}
 
 -- what is left of passes in order of time is so too
 pub in_time_tail : (p : Pass) (ps : List Pass) → InTime (p ∷ ps) → InTime ps
@@ -105,7 +104,7 @@ module _ (turns : List ℕ) where
         (rest.0, reach_past p ps s ds rest.1)
     good_from_follow (p ∷ ps) (suc c ∷ ds) s e room time long h =
         let d = suc c in
-        let first = and_then_some (decide turns p d s) (λ t. follow turns ps t ds) e h in
+        let first = follow_first turns p ps d ds s e h in
         let said = decide_says p d s first.0 (omega arith) first.1 in
         let rest = good_from_follow ps ds first.0 e (ap (λ t. length t.seconds) said.then ∙ length-set s.seconds (d - 1) _ ∙ room) (in_time_tail p ps time) (omega arith) first.2 in
         let reach = rw said.then at rest.1 in

@@ -3,3 +3,4 @@ pub mod Sums
 pub mod Nights
 pub mod Answers
 pub mod Statements
+pub mod Lawful

@@ -8,6 +8,7 @@ use Rattle.passes.specs.Checks.{checked}
 use Rattle.passes.specs.Plans.{Plan, fits, worth_of, Best}
 use Rattle.passes.specs.Rule.{nth}
 use Rattle.capacity.specs.Order.{InTime}
+use Rattle.planner.specs.declared.scheduling.TheConstants.{MOST_DISHES}
 use Rattle.planner.specs.Dishes.{fits_each, turns_of}
 use Rattle.planner.specs.Nights.{night}
 
@@ -17,9 +18,9 @@ pub record PlansAreRuns {S : Type 0} (good : Plan → Bool) (ps : List Pass) (g 
   pub plans : (ds : Plan) (e : S) → Run g.moves ds e → good ds ≡ true
   pub worth : (ds : Plan) (e : S) → Run g.moves ds e → gained_by g ds ≡ worth_of ps ds
 
--- for up to 8 dishes, each of which takes its own time to turn, and passes in order of begin, the good plans are the runs of the night
+-- for up to eight dishes, each of which takes its own time to turn, and passes in order of begin, the good plans are the runs of the night
 abbrev pub EachIsNight : Type 0
-EachIsNight = (turns : List ℕ) (ps : List Pass) → length turns ≤ 8 → InTime ps → PlansAreRuns (fits_each turns ps) ps (night turns ps)
+EachIsNight = (turns : List ℕ) (ps : List Pass) → length turns ≤ MOST_DISHES → InTime ps → PlansAreRuns (fits_each turns ps) ps (night turns ps)
 
 -- and so they are for a station and a list that pass the checks
 abbrev pub StationIsNight : Type 0

@@ -1,12 +1,11 @@
 -- What passes are worth together. Assumes nothing: these are definitions.
-use Rattle.std.specs.Prelude.{◌≡◌, ℕ, ◌+◌, ◌^◌, ◌<◌, ◌≤◌, List, [], ◌∷◌, length, drop, slice_index}
+use Rattle.std.specs.Prelude.{◌≡◌, ℕ, ◌^◌, ◌<◌, ◌≤◌, List, length, sum_by, drop, slice_index}
 use Rattle.passes.specs.declared.model.Pass.{Pass}
 use Rattle.passes.specs.Rule.{nth}
 
 -- what the passes of a list are worth together
-unfoldable pub all_worth : List Pass → ℕ
-all_worth [] = 0
-all_worth (p ∷ ps) = p.worth + all_worth ps
+abbrev pub all_worth : List Pass → ℕ
+all_worth ps = sum_by (λ p. p.worth) ps
 
 -- from entry i on, entry k of a table is what the passes from pass k on are worth together; the last one stands behind all passes
 abbrev pub AddsUp : List Pass → ℕ → (table : List ℕ) → Type 0

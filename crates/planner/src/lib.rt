@@ -5,6 +5,8 @@ mod laws;
 mod planning;
 mod scheduling;
 
+ghost use Rattle.std.specs.Prelude.{◌≤◌};
+
 pub use laws::{
     each_is_night_stands, has_best_stands, more_dishes_stands, one_more_stands,
     side_by_side_stands, station_is_night_stands,
@@ -17,6 +19,7 @@ mod tests {
     use super::*;
     use engine::{Summed, gain_most};
     use passes::{Pass, Refusal};
+    use std::array;
     use std::test::Fail;
 
     // Five passes that any dish may follow.
@@ -90,51 +93,49 @@ mod tests {
         assert_eq!(rt; room, [9; 3]);
     }
 
-    // Sixteen times eight passes of ten seconds, ten seconds apart, which all eight dishes may follow.
-    fn by_eights() -> [Pass; 128] {
-        let none = Pass {
-            from: 0,
-            to: 0,
-            worth: u32::MAX,
-            marks: 255,
-        };
-        let mut passes = [none; 128];
-        for i in 0..128 {
+    // Eight passes at a time, of ten seconds each and ten seconds apart, which all eight dishes may follow.
+    fn by_eights<const N: usize>() -> [Pass; N]
+        requires { N ≤ 128 }
+    {
+        array::from_fn(|i| {
             let from = 20 * (i as u32 / 8);
-            passes[i].from = from;
-            passes[i].to = from + 10;
-        }
-        passes
+            Pass {
+                from,
+                to: from + 10,
+                worth: u32::MAX,
+                marks: 255,
+            }
+        })
+    }
+
+    // What is gained at most by dishes that take so long to turn.
+    fn gained<'a, const N: usize>(turns: &'a [u32; 8], passes: &'a [Pass; N]) -> Option<u64>
+        requires { N ≤ 128 }
+    {
+        let problem = Summed {
+            gains: Scheduling::new(turns, passes),
+        };
+        let mut made = [0; N];
+        let mut room = [9; N];
+        gain_most(&problem, &mut made, &mut room)
     }
 
     #[test]
     fn eight_dishes(rt: HostRuntime) {
         // all have turned when the next eight begin
         let turns = [0, 10, 2, 3, 4, 5, 6, 7];
-        let passes = by_eights();
-        let problem = Summed {
-            gains: Scheduling::new(&turns, &passes),
-        };
-        let mut made = [0; 128];
-        let mut room = [9; 128];
-        let gained = gain_most(&problem, &mut made, &mut room);
-        assert_eq!(rt; gained, Some(128 * u32::MAX as u64));
+        let passes = by_eights::<128>();
+        assert_eq!(rt; gained(&turns, &passes), Some(128 * u32::MAX as u64));
     }
 
     #[test]
     fn a_dish_with_its_own_turning(rt: HostRuntime) {
         // the first eight of those passes, and a ninth that only the last dish may follow: it has turned by then, or it hasn't
-        let mut passes = by_eights();
+        let mut passes = by_eights::<9>();
         passes[8].marks = 128;
         for (turn, followed) in [(10, 9), (11, 8)] {
             let turns = [0, 10, 2, 3, 4, 5, 6, turn];
-            let problem = Summed {
-                gains: Scheduling::new(&turns, &passes[0..9]),
-            };
-            let mut made = [0; 9];
-            let mut room = [9; 9];
-            let gained = gain_most(&problem, &mut made, &mut room);
-            assert_eq!(rt; gained, Some(followed * u32::MAX as u64));
+            assert_eq!(rt; gained(&turns, &passes), Some(followed * u32::MAX as u64));
         }
     }
 }

@@ -1,19 +1,20 @@
 // The entry: a best plan over all plans.
-ghost use Rattle.std.specs.Prelude.{◌≡◌, ◌≤◌, length, MatchResult};
+ghost use Rattle.std.specs.Prelude.{◌≡◌, length, MatchResult};
 ghost use Rattle.std.specs.Result.{result_err};
 ghost use Rattle.engine.specs.Gaining.{BestGain};
 ghost use Rattle.passes.specs.Nights.{passes_of, station_of};
 ghost use Rattle.passes.specs.Numbers.{passes_in};
 ghost use Rattle.passes.specs.Refusals.{refused_with_room};
 ghost use Rattle.capacity.specs.Alone.{Planned as BestPlanWorth};
-ghost use Rattle.planner.specs.Answers.{DoneSays};
+ghost use Rattle.planner.specs.Answers.{done_of, DoneSays};
 ghost use Rattle.planner.specs.Nights.{night as night_of};
 
 use crate::scheduling::{MOST_PASSES, Scheduling};
 use engine::{Summed, gain_most};
-use passes::{MAX_DISHES, Night, Pass, Refusal};
+use passes::{MAX_DISHES, Night, Refusal};
 
 // What came of planning.
+// Kept: C is to be given a kind and a number, so it is no Result.
 #[derive(Clone, Copy, Debug, PartialEq)]
 pub enum Done {
     // What the plan is worth.
@@ -22,15 +23,24 @@ pub enum Done {
     Refused(u64),
 }
 
+// Of a refusal its number is told.
+impl From<Result<u64, Refusal>> for Done {
+    ghost from_gives = { λ planned done. done ≡ done_of planned };
+
+    fn from(planned: Result<u64, Refusal>) -> Done {
+        match planned {
+            Ok(worth) => Done::Planned(worth),
+            Err(refusal) => Done::Refused(refusal.number()),
+        }
+    }
+}
+
 // Leaves a plan that is worth as much as any in the room and answers its worth, or answers the number of the first refusal that applies and
 // leaves the room as it was.
 pub fn plan(dishes: u64, turn: u64, passes: &[u32], room: &mut [u8]) -> Done
     ensures { DoneSays (refused_with_room dishes turn passes.now (length room.old)) (station_of dishes turn) (passes_in passes.now) room.old result room.new }
 {
-    match try_plan(dishes, turn, passes, room) {
-        Ok(worth) => Done::Planned(worth),
-        Err(refusal) => Done::Refused(refusal.number()),
-    }
+    try_plan(dishes, turn, passes, room).into()
 }
 
 // The same, with the refusal itself, which has its place.
@@ -49,22 +59,19 @@ fn plan_night(night: &Night, room: &mut [u8]) -> u64
 {
     let station = night.station();
     let turns = [station.turn; MAX_DISHES];
-    plan_each(&turns[0..station.dishes as usize], night.passes(), room)
+    let turns = &turns[..station.dishes as usize];
+    let problem = Summed {
+        gains: Scheduling::new(turns, night.passes()),
+    };
+    plan_each(&problem, room)
 }
 
 // Leaves the decisions that gain the most in the room, for dishes each of which takes its own time to turn, and answers how much that is.
-fn plan_each<'a>(turns: &'a [u32], passes: &'a [Pass], room: &mut [u8]) -> u64
-    requires few_dishes { length turns.now ≤ 8 }
-    requires few_passes { length passes.now ≤ 128 }
-    requires one_each { length room.old ≡ length passes.now }
-    ensures { BestGain (night_of turns.now passes.now) room.new result }
+// Kept: `made` is as long as the most passes ask, and only its front is lent, since memory is fixed.
+fn plan_each(problem: &Summed<Scheduling>, room: &mut [u8]) -> u64
+    requires one_each { length room.old ≡ length problem.now.gains.passes.now }
+    ensures { BestGain (night_of problem.now.gains.turns.now problem.now.gains.passes.now) room.new result }
 {
-    let problem = Summed {
-        gains: Scheduling::new(turns, passes),
-    };
     let mut made = [0; MOST_PASSES];
-    match gain_most(&problem, &mut made[0..passes.len()], room) {
-        Some(worth) => worth,
-        None => unreachable(),
-    }
+    gain_most(problem, &mut made[..room.len()], room).unwrap()
 }

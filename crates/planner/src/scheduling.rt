@@ -1,9 +1,11 @@
 // A night as a sequence of decisions: on each pass, in order of begin, which dish follows it, if any.
-ghost use Rattle.std.specs.Prelude.{◌≡◌, ◌<◌, ◌≤◌, length};
+ghost use Rattle.std.specs.Prelude.{◌≡◌, ◌≤◌, length};
+ghost use Rattle.planner.specs.declared.scheduling.TheConstants.{MOST_DISHES, MOST_PASSES};
 ghost use Rattle.planner.specs.Sums.{Small, AddsUp};
 ghost use Rattle.planner.specs.Nights.{night};
+ghost use Rattle.planner.specs.Lawful.{night_moves, night_sums};
 
-use engine::Gains;
+use engine::{Decisions, Gains};
 use passes::Pass;
 
 // More than a night that is read has, so that wider problems fit.
@@ -14,6 +16,7 @@ pub const MOST_PASSES: usize = 128;
 const ENTRIES: usize = MOST_PASSES + 1;
 
 // The second from which each dish is free.
+// Kept: a place for each of the most dishes, however many there are, since memory is fixed.
 #[derive(Clone, Copy)]
 pub struct FreeFrom {
     seconds: [u64; MOST_DISHES],
@@ -25,9 +28,10 @@ pub struct Scheduling<'a> {
     turns: &'a [u32],
     passes: &'a [Pass],
     // What the passes from each on are worth together.
+    // Kept: as long as the most passes ask, since memory is fixed.
     left: [u64; ENTRIES],
-    ghost few_dishes: { length turns.now ≤ 8 },
-    ghost few_passes: { length passes.now ≤ 128 },
+    ghost few_dishes: { length turns.now ≤ MOST_DISHES },
+    ghost few_passes: { length passes.now ≤ MOST_PASSES },
     ghost small: { Small passes.now },
     ghost sums: { AddsUp passes.now 0 left },
 }
@@ -35,13 +39,12 @@ pub struct Scheduling<'a> {
 impl<'a> Scheduling<'a> {
     // The night of these dishes and passes.
     pub fn new(turns: &'a [u32], passes: &'a [Pass]) -> Scheduling<'a>
-        requires few_dishes { length turns.now ≤ 8 }
-        requires few_passes { length passes.now ≤ 128 }
+        requires few_dishes { length turns.now ≤ MOST_DISHES }
+        requires few_passes { length passes.now ≤ MOST_PASSES }
         ensures same_turns { result.turns.now ≡ turns.now }
         ensures same_passes { result.passes.now ≡ passes.now }
     {
-        let mut left = [0; ENTRIES];
-        add_up(passes, &mut left);
+        let left = add_up(passes);
         Scheduling {
             turns,
             passes,
@@ -50,25 +53,25 @@ impl<'a> Scheduling<'a> {
     }
 }
 
-// Writes down what the passes from each on are worth together, from the last to the first.
-fn add_up(passes: &[Pass], left: &mut [u64])
-    requires few_passes { length passes.now ≤ 128 }
-    requires an_entry_each { length passes.now < length left.old }
+// What the passes from each on are worth together, from the last to the first.
+fn add_up(passes: &[Pass]) -> [u64; ENTRIES]
+    requires few_passes { length passes.now ≤ MOST_PASSES }
     ensures small { Small passes.now }
-    ensures sums { AddsUp passes.now 0 left.new }
+    ensures sums { AddsUp passes.now 0 result }
 {
-    left[passes.len()] = 0;
-    for i in (0..passes.len()).rev() {
-        left[i] = passes[i].worth as u64 + left[i + 1];
+    let mut left = [0; ENTRIES];
+    for (i, pass) in passes.iter().enumerate().rev() {
+        left[i] = pass.worth as u64 + left[i + 1];
     }
+    left
 }
 
-impl Gains for Scheduling<'_> {
+impl Decisions for Scheduling<'_> {
     type State = FreeFrom;
 
-    ghost gaining = { λ p. night p.turns.now p.passes.now };
+    ghost moves = { λ p. (night p.turns.now p.passes.now).moves };
 
-    fn lawful(&self) {}
+    ghost move_laws = { λ p. night_moves p.turns.now p.passes.now };
 
     fn stages(&self) -> usize {
         self.passes.len()
@@ -84,28 +87,31 @@ impl Gains for Scheduling<'_> {
         }
     }
 
-    fn step(&self, stage: usize, choice: u8, state: FreeFrom) -> Option<FreeFrom> {
-        if choice == 0 {
+    fn step(&self, stage: usize, choice: u8, mut state: FreeFrom) -> Option<FreeFrom> {
+        let Some(dish) = choice.checked_sub(1) else {
             return Some(state);
-        }
-        let dish = choice as usize - 1;
-        let pass = self.passes[stage];
-        if dish >= self.turns.len()
-            || !pass.may_be_followed_by(dish as u8)
-            || state.seconds[dish] > pass.from as u64
-        {
+        };
+        let pass = &self.passes[stage];
+        let turn = *self.turns.get(dish as usize)?;
+        if !pass.may_be_followed_by(dish) || state.seconds[dish as usize] > pass.from as u64 {
             return None;
         }
-        let mut seconds = state.seconds;
-        seconds[dish] = pass.to as u64 + self.turns[dish] as u64;
-        Some(FreeFrom { seconds })
+        state.seconds[dish as usize] = pass.to as u64 + turn as u64;
+        Some(state)
     }
+}
+
+impl Gains for Scheduling<'_> {
+    ghost gain = { λ p. (night p.turns.now p.passes.now).gain };
+
+    ghost most = { λ p. (night p.turns.now p.passes.now).most };
+
+    ghost sum_laws = { λ p. night_sums p.turns.now p.passes.now p.small p.few_passes };
 
     fn gain(&self, stage: usize, choice: u8, _state: FreeFrom) -> u64 {
-        if choice == 0 {
-            0
-        } else {
-            self.passes[stage].worth as u64
+        match choice.checked_sub(1) {
+            Some(_dish) => self.passes[stage].worth as u64,
+            None => 0,
         }
     }
 

@@ -1,9 +1,11 @@
-use Rattle.std.proofs.Common.{Some, None}
+use Rattle.std.proofs.Common.{◌≡◌, rules}
+use Rattle.std.specs.Option.{option_map}
+use Rattle.engine.specs.Gaining.{gaining}
 use Rattle.engine.proofs.Tallies.{gain_answered}
 use Rattle.engine.proofs.gains.gain_most.Goals as goal
 
-pub returns-in-Some : goal.returns-in-Some
-returns-in-Some g c = gain_answered (g.G.Gains.gaining c.args.problem.now.gains) c.args.room.now c.search.new.room (Some c.in-Some.end) c.in-Some.ensures
-
-pub returns-in-None : goal.returns-in-None
-returns-in-None g c = gain_answered (g.G.Gains.gaining c.args.problem.now.gains) c.args.room.now c.search.new.room None c.in-None.ensures
+pub returns : goal.returns
+returns g c =
+    let p = c.args.problem.now.gains in
+    let told : c.map.result ≡ option_map (λ t. t.gained) c.search.result = search rules in
+    rw told (gain_answered (gaining (g.G.Decisions.moves p) (g.G.Gains.gain p) (g.G.Gains.most p)) c.args.room.now c.search.new.room c.search.result c.search.ensures)

@@ -1,19 +1,16 @@
-use Rattle.std.proofs.Common.{Some, sym, ap, arith}
+use Rattle.std.proofs.Common.{arith, rules}
+use Rattle.engine.specs.Problems.{in_order}
 use Rattle.engine.specs.Runs.{leads}
 use Rattle.engine.proofs.Trying.{answered}
 use Rattle.engine.proofs.searching.search.Goals as goal
 
-pub explore-requires : goal.explore-requires
+pub explore-requires-clause-came : goal.explore-requires-clause-came
 unfolding leads
-explore-requires g c =
-    record {
-      laws = c.lawful.ensures;
-      came = record { within = omega arith; a_place_each = c.requires.a_place_each; leads_here = ap Some (sym c.start.ensures) };
-      one_each = c.requires.one_each;
-      holds = tt;
-    }
+explore-requires-clause-came g c = record { within = omega arith; a_place_each = c.requires.a_place_each; leads_here = search rules }
 
 pub returns : goal.returns
 returns g c =
-    let m = g.P.Problem.model c.args.problem.now in
-    answered m c.args.room.now c.explore.new.room c.explore.result c.explore.ensures.improved (rw c.start.ensures at c.explore.ensures.unbeaten)
+    let p = c.args.problem.now in
+    let m = in_order (g.P.Decisions.moves p) (g.P.Problem.ahead p) in
+    let told = c.explore.ensures in
+    answered m c.args.room.now _ _ c.explore.new.self.room.now c.explore.new.self.best.now (search rules) (search rules) told.improved (rw c.start.ensures at told.unbeaten)

@@ -1,5 +1,7 @@
-use Rattle.planner.proofs.Following.{idle_run}
+use Rattle.planner.proofs.Following.{some_gain}
 use Rattle.planner.proofs.planning.plan_each.Goals as goal
 
-pub unreachable-requires : goal.unreachable-requires
-unreachable-requires c = c.in-None.ensures.0 _ _ (idle_run c.new.result.turns.now c.new.result.passes.now)
+pub unwrap-requires : goal.unwrap-requires
+unwrap-requires c =
+    let p = c.args.problem.now.gains in
+    some_gain p.turns.now p.passes.now c.args.room.now c.gain_most.new.room c.gain_most.result c.gain_most.ensures

@@ -1,29 +1,26 @@
-use Rattle.std.proofs.Common.{◌≡◌, ◌-◌, ◌≤◌, length, take, replicate, sym, ap, ◌∙◌, subst, arith}
-use Rattle.std.proofs.lemmas.List.{length-take, take-replicate}
-use Rattle.engine.specs.Gaining.{BestGain}
+use Rattle.std.proofs.Common.{◌≤◌, sym, ap, ◌∙◌, arith}
+use Rattle.std.proofs.lemmas.List.{length-take-le, take-replicate}
 use Rattle.passes.specs.Nights.{passes_of}
-use Rattle.passes.proofs.Checking.{checked_says}
 use Rattle.capacity.proofs.Timing.{few_dishes_from_checked}
 use Rattle.planner.specs.Dishes.{turns_of}
-use Rattle.planner.specs.Nights.{night}
 use Rattle.planner.proofs.Stations.{planned_from_gain}
 use Rattle.planner.proofs.planning.plan_night.Goals as goal
+use Rattle.planner.proofs.planning.plan_night.Goals.{After-station-station}
 
-pub slice_bounds-plan_each-end : goal.slice_bounds-plan_each-end
-slice_bounds-plan_each-end c = omega (arith, few_dishes_from_checked _ _ c.args.night.now.ok, ap (λ s. s.dishes) c.station-station.ensures)
+four_dishes : (c : After-station-station) → c.station-station.result.dishes ≤ 4
+four_dishes c = omega (arith, few_dishes_from_checked _ _ c.args.night.now.ok, ap (λ s. s.dishes) c.station-station.ensures)
 
-pub plan_each-requires : goal.plan_each-requires
-plan_each-requires c =
-    let few = (checked_says _ _ c.args.night.now.ok).few in
-    let long = ap length c.passes.ensures in
-    record { few_dishes = simp length-take (omega arith); few_passes = omega arith; one_each = c.requires.one_each ∙ sym long }
+pub slice_bounds-turns-end : goal.slice_bounds-turns-end
+slice_bounds-turns-end c = four_dishes (goal.at.slice_bounds-turns-end c).After-station-station
+
+pub slice_bounds-turns-end-2 : goal.slice_bounds-turns-end-2
+slice_bounds-turns-end-2 c = sym (length-take-le c.station-station.result.dishes _ (four_dishes (goal.at.slice_bounds-turns-end-2 c).After-station-station))
 
 pub returns : goal.returns
 returns c =
     let n = c.args.night.now in
     let s = c.station-station.result in
-    let few : s.dishes - 0 ≤ 4 = omega (arith, few_dishes_from_checked _ _ n.ok, ap (λ s. s.dishes) c.station-station.ensures) in
-    let all : s.dishes - 0 ≡ s.dishes = omega arith in
-    let same : take (s.dishes - 0) (replicate 4 s.turn) ≡ turns_of n.station = take-replicate (s.dishes - 0) 4 s.turn few ∙ ap (λ k. replicate k s.turn) all ∙ ap turns_of c.station-station.ensures in
-    let best = subst (λ ps. BestGain (night (take (s.dishes - 0) (replicate 4 s.turn)) ps) c.plan_each.new.room c.plan_each.result) c.passes.ensures c.plan_each.ensures in
-    planned_from_gain n.station (passes_of n) n.ok c.plan_each.new.room c.plan_each.result (subst (λ turns. BestGain (night turns (passes_of n)) c.plan_each.new.room c.plan_each.result) same best)
+    let few = four_dishes (goal.at.returns c).After-station-station in
+    let same_turns = c.new.ensures.same_turns ∙ take-replicate s.dishes 4 s.turn few ∙ ap turns_of c.station-station.ensures in
+    let same_passes = c.new.ensures.same_passes ∙ c.passes.ensures in
+    planned_from_gain n.station (passes_of n) n.ok c.plan_each.new.room c.plan_each.result (rw (same_turns, same_passes) at c.plan_each.ensures)
