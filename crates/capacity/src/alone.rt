@@ -12,6 +12,7 @@ ghost use Rattle.capacity.specs.Order.{InTime, InTime-prop, FirstFrom};
 use passes::{MAX_PASSES, Night, Pass, Refusal, Station};
 
 // A table has one entry more than there are passes.
+// Kept: tables and gains are arrays, of which the front is used, since there is no heap.
 const MAX_ENTRIES: usize = MAX_PASSES + 1;
 
 // Leaves a best plan for a station with one dish in the room, and says what it is worth.

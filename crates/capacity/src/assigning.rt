@@ -46,7 +46,8 @@ impl From<Refusal> for Unassigned {
 }
 
 // Gives a dish to every pass of a night, if every dish may follow every pass: in order of begin, each pass gets a dish that is free. Where
-// marks differ, one that is free need not be one that may follow, so such a night is not tried.
+// marks differ, one that is free need not be one that may follow, so such a night is not tried. Kept: the room stands beside the night, here and
+// in what plans, since it is the caller's and is lent to be written.
 pub fn assign_all(night: &Night, room: &mut [u8]) -> Result<(), Unassigned>
     ensures refusal { turned_away result ≡ room_refused (length (passes_of night.now)) (length room.old) }
     ensures assigned { Assigned night.now.station (passes_of night.now) result room.new }
@@ -58,6 +59,7 @@ pub fn assign_all(night: &Night, room: &mut [u8]) -> Result<(), Unassigned>
     if let Some(i) = first_closed(station.dishes, passes) {
         return Err(Unassigned::NotOpen(i));
     }
+    // Kept: an array, of which the front is used, since there is no heap.
     let mut numbers = [0; MAX_PASSES];
     let plan = &mut numbers[..passes.len()];
     give_dishes(station, passes, plan).map_err(Unassigned::TooMany)?;
@@ -88,6 +90,7 @@ fn give_dishes(station: Station, passes: &[Pass], plan: &mut [u8]) -> Result<(),
     requires one_each { length plan.old ≡ length passes.now }
     ensures { MatchResult result (λ _. FollowsAll station passes.now plan.new) (FirstOverfull station passes.now) }
 {
+    // Kept: an array, of which the front is used, since there is no heap.
     let mut free = [0; MAX_DISHES];
     for (i, pass) in passes.iter().enumerate() {
         let there = &free[..station.dishes as usize];

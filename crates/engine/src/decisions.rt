@@ -3,6 +3,7 @@ ghost use Rattle.std.specs.Prelude.{◌≡◌, ◌<◌};
 ghost use Rattle.engine.specs.Runs.{Moves, MoveLaws};
 
 // A sequence of decisions: at each stage one of some choices, each of which leads to another state or isn't allowed.
+// Kept: each method asks that the stage is there and the state fine, since a struct of the two can't name the decisions that they belong to.
 pub trait Decisions {
     type State: Copy;
 

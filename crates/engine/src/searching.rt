@@ -38,6 +38,7 @@ impl<P: Problem> Exploring<'_, P> {
         {
             return;
         }
+        // Kept: no list is gone through here, since a choice is a number.
         for choice in (0..problem.choices(stage)).rev() {
             if let Some(next) = problem.step(stage, choice, state) {
                 made[stage] = choice;

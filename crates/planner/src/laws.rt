@@ -1,4 +1,5 @@
 // Theorems about the definitions, each on the contract of a function.
+// Kept: these functions differ in their contracts alone, and what a contract states can't be a parameter.
 ghost use Rattle.planner.specs.Statements.{EachIsNight, StationIsNight, HasBest, MoreDishes, OneMore, SideBySide};
 
 // For dishes each of which takes its own time to turn, the good plans are the runs of the night.

@@ -36,7 +36,7 @@ impl From<Result<u64, Refusal>> for Done {
 }
 
 // Leaves a plan that is worth as much as any in the room and answers its worth, or answers the number of the first refusal that applies and
-// leaves the room as it was.
+// leaves the room as it was. Kept: what it is lent comes one by one, as C is to lend it.
 pub fn plan(dishes: u64, turn: u64, passes: &[u32], room: &mut [u8]) -> Done
     ensures { DoneSays (refused_with_room dishes turn passes.now (length room.old)) (station_of dishes turn) (passes_in passes.now) room.old result room.new }
 {
@@ -58,6 +58,7 @@ fn plan_night(night: &Night, room: &mut [u8]) -> u64
     ensures { BestPlanWorth night.now.station (passes_of night.now) room.new result }
 {
     let station = night.station();
+    // Kept: an array, of which the front is used, since there is no heap.
     let turns = [station.turn; MAX_DISHES];
     let turns = &turns[..station.dishes as usize];
     let problem = Summed {

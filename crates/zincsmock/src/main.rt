@@ -32,12 +32,21 @@ impl fmt::Display for Case<'_> {
     }
 }
 
-impl Case<'_> {
+impl<'a> Case<'a> {
+    // The station with so many dishes, each of which takes so long to turn, and these passes.
+    fn new(dishes: u64, turn: u64, passes: &'a [[u32; 4]]) -> Case<'a> {
+        Case {
+            dishes,
+            turn,
+            passes,
+        }
+    }
+
     // Prints a plan and what is said of it, on one line.
     fn report(&self, rt: &HostRuntime, plan: &[u8]) -> io::Result<()> {
-        let numbers = self.passes.concat(rt.alloc())?;
+        let numbers = self.passes.as_flattened();
         print!(rt; "{self} {}", Plan(plan))?;
-        match judge(self.dishes, self.turn, numbers.as_slice(), plan) {
+        match judge(self.dishes, self.turn, numbers, plan) {
             Ok(Ok(worth)) => println!(rt; ": good, worth {worth}"),
             Ok(Err(flaw)) => println!(rt; ": not good, {flaw}"),
             Err(refusal) => println!(rt; ": turned away, {refusal}"),
@@ -46,9 +55,10 @@ impl Case<'_> {
 
     // Prints a best plan for one dish, and what it is worth.
     fn report_one_dish(&self, rt: &HostRuntime) -> io::Result<()> {
-        let numbers = self.passes.concat(rt.alloc())?;
+        let numbers = self.passes.as_flattened();
         let mut room = vec![in rt.alloc(); 0; self.passes.len()]?;
-        match plan_one_dish(self.turn, numbers.as_slice(), room.as_mut_slice()) {
+        // Kept: a match, since both outcomes are printed.
+        match plan_one_dish(self.turn, numbers, room.as_mut_slice()) {
             Ok(worth) => println!(rt; "{self}: worth {worth} by {}", Plan(room.as_slice())),
             Err(refusal) => println!(rt; "{self}: turned away, {refusal}"),
         }
@@ -56,9 +66,9 @@ impl Case<'_> {
 
     // Prints the busiest second, and a plan that follows all the passes or why there is none.
     fn report_capacity(&self, rt: &HostRuntime) -> io::Result<()> {
-        let numbers = self.passes.concat(rt.alloc())?;
+        let numbers = self.passes.as_flattened();
         let mut room = vec![in rt.alloc(); 0; self.passes.len()]?;
-        match Night::read(self.dishes, self.turn, numbers.as_slice()) {
+        match Night::read(self.dishes, self.turn, numbers) {
             Ok(night) => {
                 print!(rt; "{self}: ")?;
                 report_night(rt, &night, room.as_mut_slice())
@@ -92,38 +102,20 @@ impl fmt::Display for Plan<'_> {
     }
 }
 
-// The five passes over a station.
-fn five(dishes: u64, turn: u64) -> Case<'static> {
-    Case {
-        dishes,
-        turn,
-        passes: &FIVE,
-    }
-}
-
-// The marked ones.
-fn marked(dishes: u64, turn: u64) -> Case<'static> {
-    Case {
-        dishes,
-        turn,
-        passes: &MARKED,
-    }
-}
-
 fn main(rt: HostRuntime) -> io::Result<()> {
-    five(1, 0).report(&rt, &[1, 0, 1, 0, 1])?;
-    five(1, 3).report(&rt, &[0, 1, 0, 0, 1])?;
-    five(2, 0).report(&rt, &[2, 1, 2, 1, 2])?;
-    five(2, 3).report(&rt, &[2, 1, 0, 2, 1])?;
-    marked(2, 0).report(&rt, &[0, 1, 2])?;
-    marked(2, 0).report(&rt, &[1, 0, 1])?;
-    five(1, 3).report(&rt, &[1, 0, 1, 0, 1])?;
-    marked(1, 0).report(&rt, &[0, 1, 2])?;
-    five(5, 0).report(&rt, &[1, 0, 1, 0, 1])?;
-    five(1, 0).report(&rt, &[1, 0, 1])?;
-    five(1, 0).report_one_dish(&rt)?;
-    five(1, 3).report_one_dish(&rt)?;
-    five(2, 0).report_capacity(&rt)?;
-    five(2, 3).report_capacity(&rt)?;
-    marked(2, 0).report_capacity(&rt)
+    Case::new(1, 0, &FIVE).report(&rt, &[1, 0, 1, 0, 1])?;
+    Case::new(1, 3, &FIVE).report(&rt, &[0, 1, 0, 0, 1])?;
+    Case::new(2, 0, &FIVE).report(&rt, &[2, 1, 2, 1, 2])?;
+    Case::new(2, 3, &FIVE).report(&rt, &[2, 1, 0, 2, 1])?;
+    Case::new(2, 0, &MARKED).report(&rt, &[0, 1, 2])?;
+    Case::new(2, 0, &MARKED).report(&rt, &[1, 0, 1])?;
+    Case::new(1, 3, &FIVE).report(&rt, &[1, 0, 1, 0, 1])?;
+    Case::new(1, 0, &MARKED).report(&rt, &[0, 1, 2])?;
+    Case::new(5, 0, &FIVE).report(&rt, &[1, 0, 1, 0, 1])?;
+    Case::new(1, 0, &FIVE).report(&rt, &[1, 0, 1])?;
+    Case::new(1, 0, &FIVE).report_one_dish(&rt)?;
+    Case::new(1, 3, &FIVE).report_one_dish(&rt)?;
+    Case::new(2, 0, &FIVE).report_capacity(&rt)?;
+    Case::new(2, 3, &FIVE).report_capacity(&rt)?;
+    Case::new(2, 0, &MARKED).report_capacity(&rt)
 }
