@@ -20,3 +20,7 @@ fault_text (TooNear j) = codes "too near to pass " ++ decimal j
 -- and which pass that is
 abbrev pub flaw_text : Flaw → List ℕ
 flaw_text f = codes "pass " ++ decimal f.pass ++ codes ": " ++ fault_text f.fault
+
+-- numbers that are no pass
+abbrev pub out_of_range_text : List ℕ
+out_of_range_text = codes "numbers out of range for a pass"

@@ -7,7 +7,7 @@ ghost use Rattle.passes.specs.Plans.{worth_of};
 ghost use Rattle.passes.specs.Refusals.{room_refused, refused_with_room};
 ghost use Rattle.passes.specs.Rule.{says, Clash, FirstClash, SoundAt};
 ghost use Rattle.passes.specs.Texts.{fault_text, flaw_text};
-ghost use Rattle.passes.specs.Verdicts.{WrongWith, TrueVerdict};
+ghost use Rattle.passes.specs.Verdicts.{WrongWith, FirstFlaw, TrueVerdict};
 
 use crate::model::{Pass, Station};
 use crate::nights::Night;
@@ -85,7 +85,7 @@ pub fn judge(dishes: u64, turn: u64, numbers: &[u32], plan: &[u8]) -> Result<Ver
     night.judge(plan)
 }
 
-// A plan that has a number for each pass.
+// A plan that has a number for each pass. Kept: passes and plan are two lists, since the plan is lent on its own.
 #[derive(Drop)]
 struct Judged<'a> {
     station: Station,
@@ -100,13 +100,17 @@ impl Judged<'_> {
     fn verdict(&self) -> Verdict
         ensures { TrueVerdict self.now.station self.now.passes.now self.now.plan.now result }
     {
-        // Kept: i is the pass's place, which is answered, and any two passes are compared over one array, as a rule of the project has it.
-        for i in 0..self.passes.len() {
-            if let Some(fault) = self.fault_at(i) {
-                return Err(Flaw { pass: i, fault });
-            }
+        if let Some(flaw) = self.first_flaw() {
+            return Err(flaw);
         }
         Ok(self.worth())
+    }
+
+    // The first pass with which something is wrong, and what.
+    fn first_flaw(&self) -> Option<Flaw>
+        ensures { MatchOption result ((i : ℕ) → i < length self.now.passes.now → SoundAt self.now.station self.now.passes.now self.now.plan.now i) (FirstFlaw self.now.station self.now.passes.now self.now.plan.now) }
+    {
+        (0..self.passes.len()).find_map(|i| self.fault_at(i).map(|fault| Flaw { pass: i, fault }))
     }
 
     // What is wrong with pass i, if anything.
@@ -142,7 +146,7 @@ impl Judged<'_> {
     {
         let mut worth = 0;
         for (pass, named) in self.passes.iter().zip(self.plan) {
-            // Kept: plans are lent as bytes, and 0 is what such a byte says for "not followed".
+            // Kept: which dish follows the pass isn't asked here, so `checked_sub` would be no plainer than a test for 0.
             if *named != 0 {
                 worth += pass.worth as u64;
             }

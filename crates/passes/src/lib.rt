@@ -2,6 +2,8 @@
 // good, and what it is worth.
 #![tactic(auto)]
 
+ghost use Rattle.std.specs.Prelude.{◌<◌, ◌≤◌};
+
 mod judging;
 mod laws;
 mod model;
@@ -18,6 +20,8 @@ pub use refusals::Refusal;
 #[cfg(test)]
 mod tests {
     use super::*;
+    use std::array;
+    use std::test::Fail;
 
     // Five passes that any dish may follow, four numbers each.
     const FIVE: [u32; 20] = [
@@ -148,31 +152,38 @@ mod tests {
         assert_eq!(rt; judge(1, 0, &[0, 1, 2, 3, 4, 5, 6], &[0]), at_1, "cut off");
     }
 
-    // Forty-nine passes, each of which ends as the next one begins.
-    fn chain() -> [u32; 196] {
-        let mut numbers = [15; 196];
-        for (i, four) in numbers.chunks_exact_mut(4).enumerate() {
-            if let ([from, to, worth, _], Ok(i)) = (four, u32::try_from(i)) {
-                *from = i.saturating_mul(10);
-                *to = from.saturating_add(10);
-                *worth = 1_000_000;
-            }
-        }
-        numbers
+    // Passes each of which ends as the next one begins.
+    fn chain<const N: usize>() -> [[u32; 4]; N]
+        requires { N ≤ 49 }
+    {
+        array::from_fn(
+            |i| -> [u32; 4]
+                requires { i < 49 }
+            {
+                let from = 10 * i as u32;
+                [from, from + 10, 1_000_000, 15]
+            },
+        )
     }
 
     #[test]
-    fn long_lists(rt: HostRuntime) {
-        let mut numbers = chain();
-        assert_eq!(rt; judge(1, 0, &numbers[0..192], &[1; 48]), good(48_000_000));
-        assert_eq!(rt; judge(1, 0, &numbers, &[1; 49]), Err(Refusal::BadPass(48)));
-        // a fault further on doesn't matter, and one further in front does
+    fn long_lists(rt: HostRuntime) -> Result<(), Fail> {
         assert_eq!(rt;
-            judge(1, 0, &numbers[0..193], &[1; 49]),
-            Err(Refusal::BadPass(48))
+            judge(1, 0, chain::<48>().as_flattened(), &[1; 48]),
+            good(48_000_000)
         );
-        numbers[4 * 7 + 3] = 16;
-        assert_eq!(rt; judge(1, 0, &numbers, &[1; 49]), Err(Refusal::BadPass(7)));
+        let mut passes = chain::<49>();
+        let numbers = passes.as_flattened();
+        assert_eq!(rt; judge(1, 0, numbers, &[1; 49]), Err(Refusal::BadPass(48)));
+        // a fault further on doesn't matter, and one further in front does
+        let cut_off = numbers.get(..193).ok_or("too short")?;
+        assert_eq!(rt; judge(1, 0, cut_off, &[1; 49]), Err(Refusal::BadPass(48)));
+        passes[7][3] = 16;
+        assert_eq!(rt;
+            judge(1, 0, passes.as_flattened(), &[1; 49]),
+            Err(Refusal::BadPass(7))
+        );
+        Ok(())
     }
 
     #[test]

@@ -1,7 +1,8 @@
-ghost use Rattle.std.specs.Prelude.{◌≡◌, Some, codes};
+ghost use Rattle.std.specs.Prelude.{◌≡◌, Some};
 ghost use Rattle.passes.specs.Busy.{holds};
 ghost use Rattle.passes.specs.Follow.{may, one_after};
 ghost use Rattle.passes.specs.Numbers.{ReadAsPass};
+ghost use Rattle.passes.specs.Texts.{out_of_range_text};
 
 use std::error::Error;
 use std::fmt;
@@ -34,7 +35,7 @@ pub struct Station {
 pub struct OutOfRange;
 
 impl fmt::Display for OutOfRange {
-    ghost output = { λ _. Some (codes "numbers out of range for a pass") };
+    ghost output = { λ _. Some out_of_range_text };
 
     fn fmt<W: fmt::Write>(&self, f: &mut fmt::Formatter<W>) -> fmt::Result {
         f.write_str("numbers out of range for a pass")

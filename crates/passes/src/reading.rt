@@ -20,8 +20,8 @@ const NO_PASS: Pass = Pass {
 };
 
 impl Night {
-    // Takes a station and its passes, or turns them away with the first refusal that applies. Kept: dishes, turning and numbers come one by one
-    // here and in what calls this, since the struct for them is the night that they become.
+    // Takes a station and its passes, or turns them away with the first refusal that applies.
+    // Kept: dishes, turning and numbers come one by one here and in what calls this, since what the libraries ask for is the night they become.
     pub fn read(dishes: u64, turn: u64, numbers: &[u32]) -> Result<Night, Refusal>
         ensures refusal { result_err result ≡ refused dishes turn numbers.now }
         ensures night { IfOk result (λ n. NightOf dishes turn numbers.now n) }

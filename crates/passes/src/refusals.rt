@@ -19,7 +19,7 @@ pub enum Refusal {
 }
 
 impl Refusal {
-    // The number by which users know it. Kept: the planning entry answers this number, and C is to call it.
+    // The number by which users know it. Kept: the planning entry answers this number, to C as well.
     pub fn number(self) -> u64
         ensures { result ≡ number_of self }
     {
