@@ -26,6 +26,7 @@ pub fn plan_one_dish(turn: u64, numbers: &[u32], room: &mut [u8]) -> Result<u64,
 }
 
 // Leaves a best plan of a night with one dish in the room, and says what it is worth.
+// Kept: the room stands beside the night, since it is the caller's and is lent to be written.
 fn plan_alone(night: &Night, table: &mut [u64; MAX_ENTRIES], room: &mut [u8]) -> u64
     requires one_dish { night.now.station.dishes ≡ 1 }
     requires one_each { length room.old ≡ length (passes_of night.now) }
@@ -46,6 +47,8 @@ fn plan_alone(night: &Night, table: &mut [u64; MAX_ENTRIES], room: &mut [u8]) ->
 }
 
 // What each pass is worth.
+// Kept: by index. With `gains.iter_mut().zip(passes)` the proof knows nothing of the gains after the loop, and with `array::from_fn` nothing of
+// the passes in the closure.
 fn worths_of(passes: &[Pass]) -> [u64; MAX_PASSES]
     requires { length passes.now ≤ most_passes }
     ensures { take (length passes.now) result ≡ worths passes.now }
@@ -66,10 +69,11 @@ pub struct OneDish<'a> {
     pub ghost in_time: { InTime passes.now } by { InTime-prop passes.now },
 }
 
-impl<'a> OneDish<'a> {
+impl OneDish<'_> {
     // Fills a table, from its end, with the most that the dish can gain from each pass on: it leaves the pass out, or follows it and goes on
     // with the first that begins late enough after it.
-    // Kept: the gains are a list beside the passes, since one list of passes is looked at with many lists of gains.
+    // Kept: the gains are a list beside the passes, since the planner above is to look at one list of passes with many lists of gains; and by
+    // index, since one entry of the table is written and two behind it are read.
     pub fn fill_table(&self, gains: &[u64], table: &mut [u64])
         requires a_gain_each { length gains.now ≡ length self.now.passes.now }
         requires sum_fits { sum gains.now < 2 ^ 64 }
@@ -89,6 +93,7 @@ impl<'a> OneDish<'a> {
     }
 
     // Leaves a best plan of the dish alone in the room, for whatever gains the table has the most of: it follows each pass that it can gain by.
+    // Kept: by index, since two neighbours of the table are read and the place is compared with that of the next pass.
     pub fn follow_table(&self, table: &[u64], room: &mut [u8])
         requires one_more { length table.now ≡ length self.now.passes.now + 1 }
         requires one_each { length room.old ≡ length self.now.passes.now }

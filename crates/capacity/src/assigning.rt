@@ -46,8 +46,8 @@ impl From<Refusal> for Unassigned {
 }
 
 // Gives a dish to every pass of a night, if every dish may follow every pass: in order of begin, each pass gets a dish that is free. Where
-// marks differ, one that is free need not be one that may follow, so such a night is not tried. Kept: the room stands beside the night, here and
-// in what plans, since it is the caller's and is lent to be written.
+// marks differ, one that is free need not be one that may follow, so such a night is not tried.
+// Kept: the room stands beside the night, since it is the caller's and is lent to be written.
 pub fn assign_all(night: &Night, room: &mut [u8]) -> Result<(), Unassigned>
     ensures refusal { turned_away result ≡ room_refused (length (passes_of night.now)) (length room.old) }
     ensures assigned { Assigned night.now.station (passes_of night.now) result room.new }
@@ -82,6 +82,7 @@ fn is_open(pass: Pass, dishes: u8) -> bool
 }
 
 // Gives a free dish to one pass after the other, or answers the second in which there is none.
+// Kept: by index. With `passes.iter().zip(plan.iter_mut())` no invariant can name the plan, nor does the proof know it after the loop.
 fn give_dishes(station: Station, passes: &[Pass], plan: &mut [u8]) -> Result<(), u32>
     requires in_time { InTime passes.now }
     requires open { AllOpen station.dishes passes.now }

@@ -49,13 +49,14 @@ abbrev pub GainAnswered : {S : Type 0} → Gaining S → (room : List ℕ) → O
 GainAnswered {S} g room None after = ((cs : List ℕ) (e : S) → Run g.moves cs e → ⊥) × (after ≡ room)
 GainAnswered {S} g room (Some n) after = BestGain g after n
 
--- the same decisions, over states with what was gained so far; whoever has gained more is ahead
+-- the start of the same decisions over states with what was gained so far
 abbrev pub tally_start : {S : Type 0} → Gaining S → Tally S
 tally_start g = record { state = g.moves.start; gained = 0 }
 
 abbrev pub tally_step : {S : Type 0} → Gaining S → Step (Tally S)
 tally_step g i c t = option_map (λ u. record { state = u; gained = t.gained + g.gain i c t.state }) (g.moves.step i c t.state)
 
+-- these decisions
 abbrev pub tally_moves : {S : Type 0} → Gaining S → Moves (Tally S)
 tally_moves g = record {
   stages = g.moves.stages;
@@ -65,8 +66,10 @@ tally_moves g = record {
   fine = λ i t. g.moves.fine i t.state × (t.gained ≤ i * g.most);
 }
 
+-- whoever has gained more is ahead
 abbrev pub tally_order : {S : Type 0} → Order (Tally S)
 tally_order t u = nat_lt u.gained t.gained
 
+-- and these decisions in this order
 abbrev pub tallied : {S : Type 0} → Gaining S → Model (Tally S)
 tallied g = in_order (tally_moves g) tally_order

@@ -20,6 +20,7 @@ module _ {S : Type 0} (g : Gaining S) where
       let count = add-mul i 1 g.most in
       omega (arith, fine.1, one-mul g.most)
 
+  -- so the decisions over states with what was gained so far keep the laws
   pub tally_move_laws : MoveLaws g.moves → SumLaws g → MoveLaws (tally_moves g)
   tally_move_laws moves sums = record {
     fine_start = (moves.fine_start, omega arith);

@@ -16,6 +16,7 @@ pub trait Gains: Decisions {
     ghost most: { Self → ℕ };
 
     // What a choice that is allowed gains.
+    // Kept: stage and state come one by one, as in `Decisions`.
     fn gain(&self, stage: usize, choice: u8, state: Self::State) -> u64
         requires within { stage < (Self.moves self.now).stages }
         requires allowed { is_some ((Self.moves self.now).step stage choice state) ≡ true }

@@ -16,6 +16,7 @@ pub trait Problem: Decisions {
         ensures { result ≡ ahead self.now state other };
 
     // Whether it is sure that no way on from a state ends ahead of the best final state so far. Whoever can't tell says no.
+    // Kept: stage and state come one by one, as in `Decisions`.
     fn is_hopeless(&self, stage: usize, state: Self::State, best: Self::State) -> bool
         requires within { stage < (Self.moves self.now).stages }
         requires fine { (Self.moves self.now).fine stage state }

@@ -1,30 +1,17 @@
 -- The table of what the passes from each on are worth together. Assumes nothing.
-use Rattle.std.proofs.Common.{◌≡◌, ℕ, ◌+◌, ◌-◌, ◌*◌, ◌^◌, ◌<◌, ◌≤◌, List, [], ◌∷◌, ◌++◌, length, get_or, take, drop, replicate, set, ap, sym, ◌∙◌, ⊎_elim, arith, length-append}
-use Rattle.std.proofs.lemmas.List.{drop_all, take-take, get_or-take, get_or-replicate, get_or-set_other, get_or-set_same}
-use Rattle.std.proofs.Math.Seq.{take-append_seam, get_or-append_seam}
+use Rattle.std.proofs.Common.{◌≡◌, ℕ, ◌+◌, ◌-◌, ◌*◌, ◌^◌, ◌<◌, ◌≤◌, List, length, get_or, drop, replicate, set, ap, ◌∙◌, ⊎_elim, arith}
+use Rattle.std.proofs.lemmas.List.{drop_all, get_or-replicate, get_or-set_other, get_or-set_same}
 use Rattle.std.proofs.lemmas.List.Sums.{sum_by-drop_more}
 use Rattle.std.proofs.lemmas.Bool.{cases_eq}
 use Rattle.passes.specs.declared.model.Pass.{Pass}
 use Rattle.passes.specs.Rule.{no_pass, nth}
 use Rattle.planner.specs.Sums.{all_worth, AddsUp}
 
--- a front of passes without its last one
-pub fronted :
-    (ps front front₁ : List Pass) (p : Pass) → front ≡ front₁ ++ (p ∷ []) → front ≡ take (length front) ps →
-    (length front ≡ length front₁ + 1) × (front₁ ≡ take (length front₁) ps) × (p ≡ nth ps (length front₁))
-fronted ps front front₁ p is of =
-    let long : length front ≡ length front₁ + 1 = ap length is ∙ length-append front₁ (p ∷ []) in
-    let n = length front₁ in (
-      long,
-      sym (take-append_seam front₁ (p ∷ [])) ∙ ap (take n) (sym is ∙ of) ∙ take-take n (length front) ps (omega arith),
-      sym (get_or-append_seam front₁ p [] no_pass) ∙ ap (λ qs. get_or qs n no_pass) (sym is ∙ of) ∙ get_or-take (length front) ps n no_pass (omega arith),
-    )
-
 -- behind all passes there is nothing
-pub adds_up_none : (ps : List Pass) (n : ℕ) → length ps < n → AddsUp ps (length ps) (replicate n 0)
-adds_up_none ps n room k low high =
+pub adds_up_none : (ps : List Pass) (table : List ℕ) → length ps < length table → get_or table (length ps) 0 ≡ 0 → AddsUp ps (length ps) table
+adds_up_none ps table room nothing k low high =
     let end : k ≡ length ps = omega arith in
-    rw (end, drop_all (length ps) ps (omega arith)) (get_or-replicate n (length ps) 0 0 room)
+    rw (end, drop_all (length ps) ps (omega arith)) nothing
 
 pub adds_up_low : (ps : List Pass) (n : ℕ) → length ps < n → get_or (replicate n 0) (length ps) 0 ≤ (length ps - length ps) * 2 ^ 32
 adds_up_low ps n room = rw (get_or-replicate {A = ℕ} n (length ps) 0 0 room) (omega arith)

@@ -8,6 +8,7 @@ use Rattle.planner.specs.declared.scheduling.TheConstants.{MOST_PASSES}
 use Rattle.planner.specs.Nights.{night}
 use Rattle.planner.specs.Sums.{Small}
 
+-- steps keep a second for each dish, and no more is allowed than is offered
 pub night_moves : (turns : List ℕ) (ps : List Pass) → MoveLaws (night turns ps).moves
 night_moves turns ps = record {
   fine_start = refl;
@@ -15,6 +16,7 @@ night_moves turns ps = record {
   offered = λ i c s t l fine h. grind (arith, nat_tests);
 }
 
+-- no pass is worth more than is said of any, and all together fit
 pub night_sums : (turns : List ℕ) (ps : List Pass) → Small ps → length ps ≤ MOST_PASSES → SumLaws (night turns ps)
 night_sums turns ps small few = record {
   at_most = λ i c s t l fine h. let one = small i l in grind (arith, nat_tests);

@@ -47,9 +47,9 @@ mod tests {
         turn: u64,
         passes: &[[u32; 4]],
     ) -> Result<Done, Fail> {
-        let numbers = passes.concat(rt.alloc())?;
+        let numbers = passes.as_flattened();
         let mut room = vec![in rt.alloc(); 9; passes.len()]?;
-        Ok(plan(dishes, turn, numbers.as_slice(), room.as_mut_slice()))
+        Ok(plan(dishes, turn, numbers, room.as_mut_slice()))
     }
 
     #[test]

@@ -14,7 +14,7 @@ use engine::{Summed, gain_most};
 use passes::{MAX_DISHES, Night, Refusal};
 
 // What came of planning.
-// Kept: C is to be given a kind and a number, so it is no Result.
+// Kept: the planning entry's form is fixed, a kind and a number, since C has no `Result`.
 #[derive(Clone, Copy, Debug, PartialEq)]
 pub enum Done {
     // What the plan is worth.
@@ -36,7 +36,7 @@ impl From<Result<u64, Refusal>> for Done {
 }
 
 // Leaves a plan that is worth as much as any in the room and answers its worth, or answers the number of the first refusal that applies and
-// leaves the room as it was. Kept: what it is lent comes one by one, as C is to lend it.
+// leaves the room as it was. Kept: the form of the entry is fixed, and what it is lent comes one by one.
 pub fn plan(dishes: u64, turn: u64, passes: &[u32], room: &mut [u8]) -> Done
     ensures { DoneSays (refused_with_room dishes turn passes.now (length room.old)) (station_of dishes turn) (passes_in passes.now) room.old result room.new }
 {
@@ -53,6 +53,7 @@ pub fn try_plan(dishes: u64, turn: u64, passes: &[u32], room: &mut [u8]) -> Resu
 }
 
 // Leaves a best plan of a night in the room, and answers its worth.
+// Kept: the room stands beside the night, since it is the caller's and is lent to be written.
 fn plan_night(night: &Night, room: &mut [u8]) -> u64
     requires one_each { length room.old ≡ length (passes_of night.now) }
     ensures { BestPlanWorth night.now.station (passes_of night.now) room.new result }

@@ -54,6 +54,8 @@ impl<'a> Scheduling<'a> {
 }
 
 // What the passes from each on are worth together, from the last to the first.
+// Kept: by index, since one entry is written and the one behind it is read. With `left.iter_mut().zip(passes).rev()` the proof doesn't know what the
+// entry behind all passes ends as.
 fn add_up(passes: &[Pass]) -> [u64; ENTRIES]
     requires few_passes { length passes.now ≤ MOST_PASSES }
     ensures small { Small passes.now }
@@ -109,9 +111,11 @@ impl Gains for Scheduling<'_> {
     ghost sum_laws = { λ p. night_sums p.turns.now p.passes.now p.small p.few_passes };
 
     fn gain(&self, stage: usize, choice: u8, _state: FreeFrom) -> u64 {
-        match choice.checked_sub(1) {
-            Some(_dish) => self.passes[stage].worth as u64,
-            None => 0,
+        // Kept: which dish follows the pass isn't asked here, so `checked_sub` would be no plainer than a test for 0.
+        if choice == 0 {
+            0
+        } else {
+            self.passes[stage].worth as u64
         }
     }
 

@@ -46,6 +46,7 @@ impl<'a> Case<'a> {
     fn report(&self, rt: &HostRuntime, plan: &[u8]) -> io::Result<()> {
         let numbers = self.passes.as_flattened();
         print!(rt; "{self} {}", Plan(plan))?;
+        // Kept: a match, since all outcomes are printed.
         match judge(self.dishes, self.turn, numbers, plan) {
             Ok(Ok(worth)) => println!(rt; ": good, worth {worth}"),
             Ok(Err(flaw)) => println!(rt; ": not good, {flaw}"),
@@ -53,21 +54,11 @@ impl<'a> Case<'a> {
         }
     }
 
-    // Prints a best plan for one dish, and what it is worth.
-    fn report_one_dish(&self, rt: &HostRuntime) -> io::Result<()> {
-        let numbers = self.passes.as_flattened();
-        let mut room = vec![in rt.alloc(); 0; self.passes.len()]?;
-        // Kept: a match, since both outcomes are printed.
-        match plan_one_dish(self.turn, numbers, room.as_mut_slice()) {
-            Ok(worth) => println!(rt; "{self}: worth {worth} by {}", Plan(room.as_slice())),
-            Err(refusal) => println!(rt; "{self}: turned away, {refusal}"),
-        }
-    }
-
     // Prints the busiest second, and a plan that follows all the passes or why there is none.
     fn report_capacity(&self, rt: &HostRuntime) -> io::Result<()> {
         let numbers = self.passes.as_flattened();
         let mut room = vec![in rt.alloc(); 0; self.passes.len()]?;
+        // Kept: a match, since both outcomes are printed.
         match Night::read(self.dishes, self.turn, numbers) {
             Ok(night) => {
                 print!(rt; "{self}: ")?;
@@ -78,10 +69,22 @@ impl<'a> Case<'a> {
     }
 }
 
+// Prints a best plan for one dish, and what it is worth.
+fn report_one_dish(rt: &HostRuntime, turn: u64, passes: &[[u32; 4]]) -> io::Result<()> {
+    let case = Case::new(1, turn, passes);
+    let mut room = vec![in rt.alloc(); 0; passes.len()]?;
+    // Kept: a match, since both outcomes are printed.
+    match plan_one_dish(turn, passes.as_flattened(), room.as_mut_slice()) {
+        Ok(worth) => println!(rt; "{case}: worth {worth} by {}", Plan(room.as_slice())),
+        Err(refusal) => println!(rt; "{case}: turned away, {refusal}"),
+    }
+}
+
 // Prints the rest of that line, for a night that was read and a room for its plan.
 fn report_night(rt: &HostRuntime, night: &Night, room: &mut [u8]) -> io::Result<()> {
     let Peak { second, count } = busiest(night.passes(), night.station().turn);
     print!(rt; "busiest second {second} with {count} passes, ")?;
+    // Kept: a match, since both outcomes are printed.
     match assign_all(night, room) {
         Ok(()) => println!(rt; "all followed by {}", Plan(room)),
         Err(why) => println!(rt; "{why}"),
@@ -113,8 +116,8 @@ fn main(rt: HostRuntime) -> io::Result<()> {
     Case::new(1, 0, &MARKED).report(&rt, &[0, 1, 2])?;
     Case::new(5, 0, &FIVE).report(&rt, &[1, 0, 1, 0, 1])?;
     Case::new(1, 0, &FIVE).report(&rt, &[1, 0, 1])?;
-    Case::new(1, 0, &FIVE).report_one_dish(&rt)?;
-    Case::new(1, 3, &FIVE).report_one_dish(&rt)?;
+    report_one_dish(&rt, 0, &FIVE)?;
+    report_one_dish(&rt, 3, &FIVE)?;
     Case::new(2, 0, &FIVE).report_capacity(&rt)?;
     Case::new(2, 3, &FIVE).report_capacity(&rt)?;
     Case::new(2, 0, &MARKED).report_capacity(&rt)
