@@ -1,4 +1,4 @@
--- Passes in order of time. Assumes nothing: these are definitions, and that two proofs of one are the same.
+-- Passes in order of time. Assumes nothing: these are definitions, and of one it is proved that any two proofs of it are the same.
 use Rattle.std.specs.Prelude.{ℕ, ◌<◌, ◌≤◌, List, length}
 use Rattle.passes.specs.declared.model.Pass.{Pass}
 use Rattle.passes.specs.Rule.{nth}

@@ -16,6 +16,7 @@ use passes::{MAX_PASSES, Night, Pass, Refusal, Station};
 const MAX_ENTRIES: usize = MAX_PASSES + 1;
 
 // Leaves a best plan for a station with one dish in the room, and says what it is worth.
+// Kept: what it is lent comes one by one, as in `Night::read`, and the room is to be written.
 pub fn plan_one_dish(turn: u64, numbers: &[u32], room: &mut [u8]) -> Result<u64, Refusal>
     ensures refusal { result_err result ≡ refused_with_room 1 turn numbers.now (length room.old) }
     ensures planned { MatchResult result (λ w. Planned (station_of 1 turn) (passes_in numbers.now) room.new w) (λ _. room.new ≡ room.old) }
@@ -72,8 +73,8 @@ pub struct OneDish<'a> {
 impl OneDish<'_> {
     // Fills a table, from its end, with the most that the dish can gain from each pass on: it leaves the pass out, or follows it and goes on
     // with the first that begins late enough after it.
-    // Kept: the gains are a list beside the passes, since the planner above is to look at one list of passes with many lists of gains; and by
-    // index, since one entry of the table is written and two behind it are read.
+    // Kept: the gains are a list beside the passes, which is no less plain, since the planner above is to look at one list of passes with many lists
+    // of gains; and by index, since one entry of the table is written and two behind it are read.
     pub fn fill_table(&self, gains: &[u64], table: &mut [u64])
         requires a_gain_each { length gains.now ≡ length self.now.passes.now }
         requires sum_fits { sum gains.now < 2 ^ 64 }
@@ -93,7 +94,8 @@ impl OneDish<'_> {
     }
 
     // Leaves a best plan of the dish alone in the room, for whatever gains the table has the most of: it follows each pass that it can gain by.
-    // Kept: by index, since two neighbours of the table are read and the place is compared with that of the next pass.
+    // Kept: by index, since two neighbours of the table are read and the place is compared with that of the next pass; and the room stands beside
+    // the passes, to be written.
     pub fn follow_table(&self, table: &[u64], room: &mut [u8])
         requires one_more { length table.now ≡ length self.now.passes.now + 1 }
         requires one_each { length room.old ≡ length self.now.passes.now }

@@ -53,6 +53,7 @@ GainAnswered {S} g room (Some n) after = BestGain g after n
 abbrev pub tally_start : {S : Type 0} → Gaining S → Tally S
 tally_start g = record { state = g.moves.start; gained = 0 }
 
+-- a step of them
 abbrev pub tally_step : {S : Type 0} → Gaining S → Step (Tally S)
 tally_step g i c t = option_map (λ u. record { state = u; gained = t.gained + g.gain i c t.state }) (g.moves.step i c t.state)
 

@@ -24,6 +24,7 @@ pub trait Gains: Decisions {
         ensures { result ≡ gain self.now stage choice state };
 
     // At least what any way on from a state gains. The lower it is, the more the search leaves out.
+    // Kept: stage and state come one by one, as in `Decisions`.
     fn bound(&self, stage: usize, state: Self::State) -> u64
         requires within { stage < (Self.moves self.now).stages }
         requires fine { (Self.moves self.now).fine stage state }

@@ -17,8 +17,8 @@ struct Exploring<'a, P: Problem> {
 
 impl<P: Problem> Exploring<'_, P> {
     // Tries every way on from a state, to which the choices made so far lead.
-    // Kept: `made` beside the struct. As a field that `keep_better` lends to `copy_from_slice` it was tried, and the goal that it is as it was
-    // then stayed open.
+    // Kept: `made` beside the struct. As a field that `keep_better` lends to `copy_from_slice` it was tried in four forms, and the goal that it is as
+    // it was then stayed open. And stage and state come one by one, as in `Decisions`.
     fn explore(&mut self, stage: usize, state: P::State, made: &mut [u8])
         requires came { Came (P.moves self.old.problem.now) stage state made.old }
         requires holds { Holds (in_order (P.moves self.old.problem.now) (P.ahead self.old.problem.now)) self.old.best.now self.old.room.now }

@@ -43,7 +43,7 @@ pub fn plan(dishes: u64, turn: u64, passes: &[u32], room: &mut [u8]) -> Done
     try_plan(dishes, turn, passes, room).into()
 }
 
-// The same, with the refusal itself, which has its place.
+// The same, with the refusal itself, which has its place. Kept: it is lent what `plan` is.
 pub fn try_plan(dishes: u64, turn: u64, passes: &[u32], room: &mut [u8]) -> Result<u64, Refusal>
     ensures refusal { result_err result ≡ refused_with_room dishes turn passes.now (length room.old) }
     ensures planned { MatchResult result (λ w. BestPlanWorth (station_of dishes turn) (passes_in passes.now) room.new w) (λ _. room.new ≡ room.old) }
@@ -69,7 +69,7 @@ fn plan_night(night: &Night, room: &mut [u8]) -> u64
 }
 
 // Leaves the decisions that gain the most in the room, for dishes each of which takes its own time to turn, and answers how much that is.
-// Kept: `made` is as long as the most passes ask, and only its front is lent, since memory is fixed.
+// Kept: `made` is as long as the most passes ask, and only its front is lent, since memory is fixed; and the room is to be written.
 fn plan_each(problem: &Summed<Scheduling>, room: &mut [u8]) -> u64
     requires one_each { length room.old ≡ length problem.now.gains.passes.now }
     ensures { BestGain (night_of problem.now.gains.turns.now problem.now.gains.passes.now) room.new result }

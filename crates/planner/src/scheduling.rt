@@ -68,6 +68,7 @@ fn add_up(passes: &[Pass]) -> [u64; ENTRIES]
     left
 }
 
+// Kept: here and below, stage, choice and state come one by one, as in `Decisions`.
 impl Decisions for Scheduling<'_> {
     type State = FreeFrom;
 

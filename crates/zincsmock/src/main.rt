@@ -54,6 +54,17 @@ impl<'a> Case<'a> {
         }
     }
 
+    // Prints a best plan as if the station had one dish, and what it is worth.
+    fn report_one_dish(&self, rt: &HostRuntime) -> io::Result<()> {
+        let alone = Case { dishes: 1, ..*self };
+        let mut room = vec![in rt.alloc(); 0; self.passes.len()]?;
+        // Kept: a match, since both outcomes are printed.
+        match plan_one_dish(self.turn, self.passes.as_flattened(), room.as_mut_slice()) {
+            Ok(worth) => println!(rt; "{alone}: worth {worth} by {}", Plan(room.as_slice())),
+            Err(refusal) => println!(rt; "{alone}: turned away, {refusal}"),
+        }
+    }
+
     // Prints the busiest second, and a plan that follows all the passes or why there is none.
     fn report_capacity(&self, rt: &HostRuntime) -> io::Result<()> {
         let numbers = self.passes.as_flattened();
@@ -69,18 +80,7 @@ impl<'a> Case<'a> {
     }
 }
 
-// Prints a best plan for one dish, and what it is worth.
-fn report_one_dish(rt: &HostRuntime, turn: u64, passes: &[[u32; 4]]) -> io::Result<()> {
-    let case = Case::new(1, turn, passes);
-    let mut room = vec![in rt.alloc(); 0; passes.len()]?;
-    // Kept: a match, since both outcomes are printed.
-    match plan_one_dish(turn, passes.as_flattened(), room.as_mut_slice()) {
-        Ok(worth) => println!(rt; "{case}: worth {worth} by {}", Plan(room.as_slice())),
-        Err(refusal) => println!(rt; "{case}: turned away, {refusal}"),
-    }
-}
-
-// Prints the rest of that line, for a night that was read and a room for its plan.
+// Prints the rest of that line, for a night that was read and a room for its plan. Kept: the room stands beside the night, to be written.
 fn report_night(rt: &HostRuntime, night: &Night, room: &mut [u8]) -> io::Result<()> {
     let Peak { second, count } = busiest(night.passes(), night.station().turn);
     print!(rt; "busiest second {second} with {count} passes, ")?;
@@ -116,8 +116,8 @@ fn main(rt: HostRuntime) -> io::Result<()> {
     Case::new(1, 0, &MARKED).report(&rt, &[0, 1, 2])?;
     Case::new(5, 0, &FIVE).report(&rt, &[1, 0, 1, 0, 1])?;
     Case::new(1, 0, &FIVE).report(&rt, &[1, 0, 1])?;
-    report_one_dish(&rt, 0, &FIVE)?;
-    report_one_dish(&rt, 3, &FIVE)?;
+    Case::new(1, 0, &FIVE).report_one_dish(&rt)?;
+    Case::new(1, 3, &FIVE).report_one_dish(&rt)?;
     Case::new(2, 0, &FIVE).report_capacity(&rt)?;
     Case::new(2, 3, &FIVE).report_capacity(&rt)?;
     Case::new(2, 0, &MARKED).report_capacity(&rt)
