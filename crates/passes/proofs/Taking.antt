@@ -35,7 +35,7 @@ sound_says xs i h = record {
   order = λ later. grind (arith, nat_tests);
 }
 
-sound_from : (xs : List ℕ) (i : ℕ) → SoundNumbers xs i → sound xs i ≡ true
+pub sound_from : (xs : List ℕ) (i : ℕ) → SoundNumbers xs i → sound xs i ≡ true
 unfolding sound in_order
 sound_from xs i h =
     and_from _ _ (lt-ltb _ _ h.early) (and_from _ _ (le-leb _ _ h.whole) (and_from _ _ h.range

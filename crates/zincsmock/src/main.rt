@@ -1,9 +1,9 @@
-// Judges the example plans, and says of the example lists which second is busiest, what one dish alone can follow, and whether all passes can be
-// followed.
+// Judges the example plans, plans the example lists, and says of some which second is busiest and whether all passes can be followed.
 #![tactic(auto)]
 
 use capacity::{Peak, assign_all, busiest, plan_one_dish};
-use passes::{Night, judge};
+use passes::{Night, Refusal, judge};
+use planner::try_plan;
 use std::{fmt, io};
 
 // Five passes that any dish may follow: from, to, worth, marks.
@@ -17,6 +17,12 @@ const FIVE: [[u32; 4]; 5] = [
 
 // The first three of them, with marks of dishes 0, 0 and 1.
 const MARKED: [[u32; 4]; 3] = [[0, 10, 5, 1], [5, 15, 9, 1], [12, 20, 6, 2]];
+
+// One long pass, and two that it overlaps, which together are worth more.
+const LONG: [[u32; 4]; 3] = [[0, 900, 9, 15], [10, 400, 8, 15], [500, 890, 8, 15]];
+
+// Two passes that all dishes hear, and while they last one that only dishes 0 and 1 hear.
+const HEARD_BY_TWO: [[u32; 4]; 3] = [[0, 600, 5, 15], [10, 600, 5, 15], [60, 500, 1, 3]];
 
 // A station, and passes over it as four numbers each.
 #[derive(Clone, Copy)]
@@ -54,14 +60,34 @@ impl<'a> Case<'a> {
         }
     }
 
-    // Prints a best plan as if the station had one dish, and what it is worth.
+    // Prints a best plan, and what it is worth.
+    fn report_best(&self, rt: &HostRuntime) -> io::Result<()> {
+        let mut room = vec![in rt.alloc(); 0; self.passes.len()]?;
+        let numbers = self.passes.as_flattened();
+        let planned = try_plan(self.dishes, self.turn, numbers, room.as_mut_slice());
+        self.report_planned(rt, planned, room.as_slice())
+    }
+
+    // Prints a best plan as if the station had one dish, made from the table of what one dish can gain, and what it is worth.
     fn report_one_dish(&self, rt: &HostRuntime) -> io::Result<()> {
         let alone = Case { dishes: 1, ..*self };
         let mut room = vec![in rt.alloc(); 0; self.passes.len()]?;
+        let planned = plan_one_dish(self.turn, self.passes.as_flattened(), room.as_mut_slice());
+        print!(rt; "one dish alone, ")?;
+        alone.report_planned(rt, planned, room.as_slice())
+    }
+
+    // Prints what came of planning: what the plan in the room is worth, or why there is none.
+    fn report_planned(
+        &self,
+        rt: &HostRuntime,
+        planned: Result<u64, Refusal>,
+        room: &[u8],
+    ) -> io::Result<()> {
         // Kept: a match, since both outcomes are printed.
-        match plan_one_dish(self.turn, self.passes.as_flattened(), room.as_mut_slice()) {
-            Ok(worth) => println!(rt; "{alone}: worth {worth} by {}", Plan(room.as_slice())),
-            Err(refusal) => println!(rt; "{alone}: turned away, {refusal}"),
+        match planned {
+            Ok(worth) => println!(rt; "{self}: worth {worth} by {}", Plan(room)),
+            Err(refusal) => println!(rt; "{self}: turned away, {refusal}"),
         }
     }
 
@@ -116,6 +142,14 @@ fn main(rt: HostRuntime) -> io::Result<()> {
     Case::new(1, 0, &MARKED).report(&rt, &[0, 1, 2])?;
     Case::new(5, 0, &FIVE).report(&rt, &[1, 0, 1, 0, 1])?;
     Case::new(1, 0, &FIVE).report(&rt, &[1, 0, 1])?;
+    Case::new(1, 0, &FIVE).report_best(&rt)?;
+    Case::new(1, 3, &FIVE).report_best(&rt)?;
+    Case::new(2, 0, &FIVE).report_best(&rt)?;
+    Case::new(2, 3, &FIVE).report_best(&rt)?;
+    Case::new(2, 0, &MARKED).report_best(&rt)?;
+    Case::new(1, 0, &LONG).report_best(&rt)?;
+    Case::new(4, 60, &HEARD_BY_TWO).report_best(&rt)?;
+    Case::new(2, 100_001, &FIVE).report_best(&rt)?;
     Case::new(1, 0, &FIVE).report_one_dish(&rt)?;
     Case::new(1, 3, &FIVE).report_one_dish(&rt)?;
     Case::new(2, 0, &FIVE).report_capacity(&rt)?;

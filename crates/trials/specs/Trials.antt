@@ -1,0 +1,42 @@
+-- What may be said of a list that was tried. Assumes nothing: these are definitions.
+use Rattle.std.specs.Prelude.{◌≡◌, ℕ, ◌^◌, ◌<◌, Bool, true, false, List, length, Contains}
+use Rattle.passes.specs.declared.model.Pass.{Pass}
+use Rattle.passes.specs.declared.model.Station.{Station}
+use Rattle.passes.specs.Nights.{station_of}
+use Rattle.passes.specs.Numbers.{passes_in}
+use Rattle.passes.specs.Plans.{Plan, worth_of, Best}
+use Rattle.passes.specs.Refusals.{refused_with_room}
+use Rattle.planner.specs.declared.planning.Done.{Done}
+use Rattle.planner.specs.declared.planning.Done.TheVariants.{Planned}
+use Rattle.planner.specs.Answers.{DoneSays}
+use Rattle.trials.specs.declared.trying.Trial.{Trial}
+use Rattle.trials.specs.declared.trying.Trial.TheVariants.{AllFollowed, SomeLetGo, Mismatch}
+use Rattle.trials.specs.Numbered.{plans_of}
+
+-- a best plan was left, and its worth was answered
+abbrev pub Right : Station → List Pass → Done → Plan → Type 0
+Right s ps done ds = Best s ps ds × (done ≡ Planned (worth_of ps ds))
+
+-- what is said of an answer and a plan is true. That they don't match is said only where they aren't right, or there are too many plans to compare with
+abbrev pub TrueTrial : Station → List Pass → Done → Plan → Trial → Type 0
+TrueTrial s ps done ds AllFollowed = Right s ps done ds × (Contains ds 0 → ⊥)
+TrueTrial s ps done ds SomeLetGo = Right s ps done ds × Contains ds 0
+TrueTrial s ps done ds Mismatch = plans_of s ps < 2 ^ 64 → Right s ps done ds → ⊥
+
+-- it is true of an answer and a plan that planning may come to, for k dishes that take t seconds to turn and a list of numbers
+abbrev pub Tried : (k t : ℕ) → List ℕ → Trial → Type 0
+Tried k t xs trial =
+    (room : Plan) × (done : Done) × (ds : Plan) × DoneSays (refused_with_room k t xs (length room)) (station_of k t) (passes_in xs) room done ds
+    × TrueTrial (station_of k t) (passes_in xs) done ds trial
+
+-- a best plan of the list lets a pass go
+abbrev pub lets_go : Trial → Bool
+lets_go AllFollowed = false
+lets_go SomeLetGo = true
+lets_go Mismatch = false
+
+-- what was planned is not right
+abbrev pub is_mismatch : Trial → Bool
+is_mismatch AllFollowed = false
+is_mismatch SomeLetGo = false
+is_mismatch Mismatch = true

@@ -1,0 +1,53 @@
+// Plans random lists of passes, and compares each plan with all plans of its list.
+#![tactic(auto)]
+
+mod all_plans;
+mod lists;
+mod trying;
+
+use lists::Kind;
+use rand::SeedableRng;
+use rand::rngs::SmallRng;
+use std::io;
+use trying::{Score, Trial, try_list};
+
+const SEED: u64 = 1;
+
+// How many lists of each kind are tried.
+const LISTS: u32 = 1000;
+
+const KINDS: [Kind; 8] = [
+    Kind::NoPasses,
+    Kind::Mixed,
+    Kind::NoTurning,
+    Kind::LargeTurning,
+    Kind::EqualBegins,
+    Kind::Touching,
+    Kind::OneDishHears,
+    Kind::UnfitMarks,
+];
+
+// Tries random lists of a kind, and prints those that are planned otherwise than they should be.
+fn try_kind(rt: &HostRuntime, rng: &mut SmallRng, kind: Kind) -> io::Result<Vec<Trial>> {
+    let mut trials = Vec::new(rt.alloc());
+    for _ in 0..LISTS {
+        let list = kind.list(rt.alloc(), rng)?;
+        let trial = try_list(rt.alloc(), &list)?;
+        if trial == Trial::Mismatch {
+            println!(rt; "{kind}: mismatch at {list:?}")?;
+        }
+        trials.push(trial)?;
+    }
+    Ok(trials)
+}
+
+fn main(rt: HostRuntime) -> io::Result<()> {
+    let mut rng = SmallRng::seed_from_u64(SEED);
+    let mut all = Vec::new(rt.alloc());
+    for kind in KINDS {
+        let trials = try_kind(&rt, &mut rng, kind)?;
+        println!(rt; "{kind}: {}", Score::of(trials.as_slice()))?;
+        all.extend_from_slice(trials.as_slice())?;
+    }
+    println!(rt; "all: {}", Score::of(all.as_slice()))
+}

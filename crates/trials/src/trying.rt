@@ -1,0 +1,107 @@
+// What comes of trying lists.
+ghost use Rattle.std.specs.Prelude.{◌≡◌, length, count_by, IfOk, IfSome};
+ghost use Rattle.passes.specs.Nights.{NightOf, passes_of};
+ghost use Rattle.trials.specs.Numbered.{MostOfAll};
+ghost use Rattle.trials.specs.Trials.{TrueTrial, Tried, lets_go, is_mismatch};
+
+use crate::all_plans::most_worth;
+use crate::lists::List;
+use passes::Night;
+use planner::{Done, plan};
+use std::alloc::{AllocError, Global};
+use std::fmt;
+
+// What came of trying a list.
+#[derive(Clone, Copy, PartialEq)]
+pub enum Trial {
+    // It has a best plan, which follows every pass.
+    AllFollowed,
+    // It has a best plan, which lets a pass go.
+    SomeLetGo,
+    // What was planned isn't a best plan, or isn't worth what was answered; or there was no comparing it.
+    Mismatch,
+}
+
+// Plans a list, and compares what comes of it with all its plans.
+pub fn try_list(alloc: Global, list: &List) -> Result<Trial, AllocError>
+    ensures { IfOk result (Tried list.now.dishes list.now.turn list.now.numbers.items) }
+{
+    let Ok(night) = Night::read(list.dishes, list.turn, list.numbers.as_slice()) else {
+        return Ok(Trial::Mismatch);
+    };
+    let count = night.passes().len();
+    let mut room = vec![in alloc; 0; count]?;
+    let mut spare = vec![in alloc; 0; count]?;
+    Ok(try_night(list, &night, room.as_mut_slice(), spare.as_mut_slice()))
+}
+
+// The same, for the night that was read from the list. The plan is made in the first room, and all plans in the other.
+fn try_night(list: &List, night: &Night, room: &mut [u8], spare: &mut [u8]) -> Trial
+    requires read { NightOf list.now.dishes list.now.turn list.now.numbers.items night.now }
+    requires one_each { length spare.old ≡ length (passes_of night.now) }
+    ensures { Tried list.now.dishes list.now.turn list.now.numbers.items result }
+{
+    let done = plan(list.dishes, list.turn, list.numbers.as_slice(), room);
+    let most = most_worth(night, spare);
+    compare(night, done, room, most)
+}
+
+// Compares what was answered, and left in the room, with what a best plan is worth.
+#[tactic(auto, using(crate::proofs::Comparing::best_if_worth, crate::proofs::Comparing::right_answer, crate::proofs::Comparing::right_verdict))]
+fn compare(night: &Night, done: Done, room: &[u8], most: Option<u64>) -> Trial
+    requires { MostOfAll night.now.station (passes_of night.now) most }
+    ensures { TrueTrial night.now.station (passes_of night.now) done room.now result }
+{
+    let (Some(most), Done::Planned(said)) = (most, done) else {
+        return Trial::Mismatch;
+    };
+    let Ok(Ok(worth)) = night.judge(room) else {
+        return Trial::Mismatch;
+    };
+    if said != most || worth != most {
+        Trial::Mismatch
+    } else if room.contains(&0) {
+        Trial::SomeLetGo
+    } else {
+        Trial::AllFollowed
+    }
+}
+
+// How many lists were tried, and what came of it.
+#[derive(Clone, Copy)]
+pub struct Score {
+    lists: usize,
+    let_go: usize,
+    mismatches: usize,
+}
+
+impl Score {
+    // What came of some trials.
+    pub fn of(trials: &[Trial]) -> Score
+        ensures lists { result.lists ≡ length trials.now }
+        ensures let_go { result.let_go ≡ count_by lets_go trials.now }
+        ensures mismatches { result.mismatches ≡ count_by is_mismatch trials.now }
+    {
+        Score {
+            lists: trials.len(),
+            let_go: trials
+                .iter()
+                .filter(|trial| matches!(trial, Trial::SomeLetGo))
+                .count(),
+            mismatches: trials
+                .iter()
+                .filter(|trial| matches!(trial, Trial::Mismatch))
+                .count(),
+        }
+    }
+}
+
+impl fmt::Display for Score {
+    fn fmt<W: fmt::Write>(&self, f: &mut fmt::Formatter<W>) -> fmt::Result {
+        write!(
+            f,
+            "{} lists, {} of which let a pass go, {} mismatches",
+            self.lists, self.let_go, self.mismatches
+        )
+    }
+}
