@@ -5,6 +5,8 @@ mod decisions;
 mod gains;
 mod problem;
 mod searching;
+#[cfg(test)]
+mod tests;
 
 pub use decisions::Decisions;
 pub use gains::{Gains, Summed, Tally, gain_most};

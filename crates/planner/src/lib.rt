@@ -40,6 +40,9 @@ mod tests {
     // Two passes that all dishes hear, and while they last one that only dishes 0 and 1 hear.
     const HEARD_BY_TWO: [[u32; 4]; 3] = [[0, 600, 5, 15], [10, 600, 5, 15], [60, 500, 1, 3]];
 
+    // The same with dishes 2 and 3, so that neither the first dish nor the last that hears a pass will do for all.
+    const HEARD_BY_OTHERS: [[u32; 4]; 3] = [[0, 600, 5, 15], [10, 600, 5, 15], [60, 500, 1, 12]];
+
     // What is planned for passes, four numbers each.
     fn planned(
         rt: &HostRuntime,
@@ -60,6 +63,7 @@ mod tests {
         assert_eq!(rt; planned(&rt, 2, 3, &FIVE)?, Done::Planned(25));
         assert_eq!(rt; planned(&rt, 1, 0, &LONG)?, Done::Planned(16));
         assert_eq!(rt; planned(&rt, 4, 60, &HEARD_BY_TWO)?, Done::Planned(11));
+        assert_eq!(rt; planned(&rt, 4, 60, &HEARD_BY_OTHERS)?, Done::Planned(11));
         assert_eq!(rt; planned(&rt, 1, 0, &[])?, Done::Planned(0));
         Ok(())
     }

@@ -1,5 +1,5 @@
 // All plans of a list, tried one by one.
-ghost use Rattle.std.specs.Prelude.{◌≡◌, ℕ, suc, ◌+◌, ◌^◌, ◌<◌, ◌≤◌, cond, length, IfOk, MatchOption};
+ghost use Rattle.std.specs.Prelude.{◌≡◌, ◌<◌, ◌≤◌, cond, length};
 ghost use Rattle.passes.specs.Nights.{passes_of};
 ghost use Rattle.passes.specs.Plans.{fits, worth_of};
 ghost use Rattle.trials.specs.Numbered.{plan_numbered, MostOfAll};

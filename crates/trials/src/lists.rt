@@ -1,5 +1,5 @@
 // Random lists of passes.
-ghost use Rattle.std.specs.Prelude.{◌≡◌, ◌+◌, ◌<◌, ◌≤◌, Some, None, IfOk, vec_len, length};
+ghost use Rattle.std.specs.Prelude.{◌≡◌, ◌<◌, ◌≤◌, None, IfOk, vec_len};
 ghost use Rattle.passes.specs.Refusals.{refused};
 
 use rand::{Rng, RngExt};
@@ -26,7 +26,7 @@ pub enum Kind {
     NoTurning,
     // Dishes take longer to turn than most passes last.
     LargeTurning,
-    // Passes begin in one second or the next.
+    // Most passes begin as the one before them does, and the others a second later.
     EqualBegins,
     // Passes begin as others end, and dishes take no time to turn, or a second.
     Touching,

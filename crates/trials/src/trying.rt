@@ -1,5 +1,5 @@
 // What comes of trying lists.
-ghost use Rattle.std.specs.Prelude.{◌≡◌, length, count_by, IfOk, IfSome};
+ghost use Rattle.std.specs.Prelude.{◌≡◌, length, count_by, IfOk};
 ghost use Rattle.passes.specs.Nights.{NightOf, passes_of};
 ghost use Rattle.trials.specs.Numbered.{MostOfAll};
 ghost use Rattle.trials.specs.Trials.{TrueTrial, Tried, lets_go, is_mismatch};
@@ -30,7 +30,7 @@ pub fn try_list(alloc: Global, list: &List) -> Result<Trial, AllocError>
         return Ok(Trial::Mismatch);
     };
     let count = night.passes().len();
-    let mut room = vec![in alloc; 0; count]?;
+    let mut room = vec![in alloc; u8::MAX; count]?;
     let mut spare = vec![in alloc; 0; count]?;
     Ok(try_night(list, &night, room.as_mut_slice(), spare.as_mut_slice()))
 }
