@@ -1,3 +1,3 @@
 pub mod Numbering
-pub mod Sounding
+pub mod Growing
 pub mod Comparing

@@ -2,10 +2,12 @@
 #![tactic(auto)]
 
 mod all_plans;
+mod kinds;
 mod lists;
 mod trying;
 
-use lists::Kind;
+use kinds::Kind;
+use lists::List;
 use rand::SeedableRng;
 use rand::rngs::SmallRng;
 use std::io;
@@ -31,7 +33,7 @@ const KINDS: [Kind; 8] = [
 fn try_kind(rt: &HostRuntime, rng: &mut SmallRng, kind: Kind) -> io::Result<Vec<Trial>> {
     let mut trials = Vec::new(rt.alloc());
     for _ in 0..LISTS {
-        let list = kind.list(rt.alloc(), rng)?;
+        let list = List::random(rt.alloc(), kind, rng)?;
         let trial = try_list(rt.alloc(), &list)?;
         if trial == Trial::Mismatch {
             println!(rt; "{kind}: mismatch at {list:?}")?;
