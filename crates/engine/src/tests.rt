@@ -1,5 +1,5 @@
 // A small problem of which some sizes have no run at all.
-ghost use Rattle.std.specs.Prelude.{◌≡◌, ◌+◌, ◌<◌, true, cond, ◌&&◌, Some, None, nat_le, nat_lt};
+ghost use Rattle.std.specs.Prelude.{◌+◌, ◌<◌, cond, ◌&&◌, Some, None, nat_le, nat_lt};
 ghost use Rattle.std.proofs.Common.{arith};
 ghost use Rattle.std.proofs.lemmas.Bool.Decides.{nat_tests};
 
@@ -41,11 +41,7 @@ impl Decisions for Rising {
     }
 
     fn step(&self, _stage: usize, choice: u8, state: u8) -> Option<u8> {
-        if choice < state {
-            None
-        } else {
-            Some(choice + 1)
-        }
+        (choice >= state).then_some(choice + 1)
     }
 }
 

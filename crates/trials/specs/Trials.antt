@@ -23,11 +23,14 @@ TrueTrial s ps done ds AllFollowed = Right s ps done ds × (Contains ds 0 → �
 TrueTrial s ps done ds SomeLetGo = Right s ps done ds × Contains ds 0
 TrueTrial s ps done ds Mismatch = plans_of s ps < 2 ^ 64 → Right s ps done ds → ⊥
 
--- it is true of an answer and a plan that planning may come to, for k dishes that take t seconds to turn and a list of numbers
-abbrev pub Tried : (k t : ℕ) → List ℕ → Trial → Type 0
-Tried k t xs trial =
-    (room : Plan) × (done : Done) × (ds : Plan) × DoneSays (refused_with_room k t xs (length room)) (station_of k t) (passes_in xs) room done ds
-    × TrueTrial (station_of k t) (passes_in xs) done ds trial
+-- it is true of an answer and a plan that planning may come to, for k dishes that take t seconds to turn, a list of numbers, and a room with one for each pass
+pub record Tried (k t : ℕ) (xs : List ℕ) (trial : Trial) : Type 0 where
+  pub room : Plan
+  pub one_each : length room ≡ length (passes_in xs)
+  pub done : Done
+  pub plan : Plan
+  pub came : DoneSays (refused_with_room k t xs (length room)) (station_of k t) (passes_in xs) room done plan
+  pub says : TrueTrial (station_of k t) (passes_in xs) done plan trial
 
 -- a best plan of the list lets a pass go
 abbrev pub lets_go : Trial → Bool

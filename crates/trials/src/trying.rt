@@ -38,7 +38,8 @@ pub fn try_list(alloc: Global, list: &List) -> Result<Trial, AllocError>
 // The same, for the night that was read from the list. The plan is made in the first room, and all plans in the other.
 fn try_night(list: &List, night: &Night, room: &mut [u8], spare: &mut [u8]) -> Trial
     requires read { NightOf list.now.dishes list.now.turn list.now.numbers.items night.now }
-    requires one_each { length spare.old ≡ length (passes_of night.now) }
+    requires one_each { length room.old ≡ length (passes_of night.now) }
+    requires one_each_too { length spare.old ≡ length (passes_of night.now) }
     ensures { Tried list.now.dishes list.now.turn list.now.numbers.items result }
 {
     let done = plan(list.dishes, list.turn, list.numbers.as_slice(), room);
