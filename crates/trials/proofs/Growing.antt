@@ -74,6 +74,7 @@ module _ (kind : Kind) (k : ℕ) (xs : List ℕ) (count from : ℕ) (p : Pass) (
       let next : count + 1 ≡ suc count = omega arith in
       rw next begins
 
+  -- what holds of a pass holds where the same stands
   of_same : (i x y : ℕ) (q r : Pass) → x ≡ y → q ≡ r → PassOf kind k i y r → PassOf kind k i x q
   of_same i x y q r same_x same_q = subst (λ z. z) (λ t. PassOf kind k i (sym same_x t) (sym same_q t))
 

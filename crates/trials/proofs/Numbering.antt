@@ -55,7 +55,7 @@ module _ (s : Station) (ps : List Pass) where
     pub most : (m : ℕ) → m < n → fits s ps (nth_plan m) ≡ true → worth_of ps (nth_plan m) ≤ w
     pub no_more : (es : Plan) → Best s ps es → w ≤ worth_of ps es
 
-  -- more than the plans before it and that plan, if it is good, are worth is more than all up to it are worth
+  -- whoever is no less than w, and than what the plan of n is worth if it is good, is no less than any up to it
   most_more : (n w v : ℕ) → MostBelow n w → w ≤ v → (fits s ps (nth_plan n) ≡ true → worth_of ps (nth_plan n) ≤ v) →
       (m : ℕ) → m < n + 1 → fits s ps (nth_plan m) ≡ true → worth_of ps (nth_plan m) ≤ v
   most_more n w v h more this m l good =
@@ -89,5 +89,6 @@ module _ (s : Station) (ps : List Pass) where
       let most = rw number.2 at (h.most number.0 (omega (arith, all, number.1))) in
       (best.0, best.1, omega (arith, most best.1.0, h.no_more best.0 best.1))
 
+-- the greater of two numbers
 pub max_is : (a b : ℕ) → ord_max nat_cmp a b ≡ max a b
 max_is a b = grind (arith, nat_tests)
