@@ -5,10 +5,10 @@ use Rattle.passes.specs.Numbers.{pass_at, begun}
 use Rattle.trials.specs.declared.kinds.Kind.{Kind}
 use Rattle.trials.specs.declared.kinds.Kind.TheVariants.{NoPasses, NoTurning, LargeTurning, EqualBegins, Touching, OneDishHears, UnfitMarks}
 
--- how many passes a list of the kind may have
+-- how many passes a list of the kind may have: some, or none where the kind is that
 abbrev pub CountOf : Kind → ℕ → Type 0
 CountOf NoPasses n = n ≡ 0
-CountOf _ n = ⊤
+CountOf _ n = 0 < n
 
 -- how long its dishes may take to turn
 abbrev pub TurnOf : Kind → ℕ → Type 0

@@ -9,8 +9,10 @@ use Rattle.passes.specs.Refusals.{refused_with_room}
 use Rattle.planner.specs.declared.planning.Done.{Done}
 use Rattle.planner.specs.declared.planning.Done.TheVariants.{Planned}
 use Rattle.planner.specs.Answers.{DoneSays}
+use Rattle.trials.specs.declared.kinds.Kind.{Kind}
 use Rattle.trials.specs.declared.trying.Trial.{Trial}
 use Rattle.trials.specs.declared.trying.Trial.TheVariants.{AllFollowed, SomeLetGo, Mismatch}
+use Rattle.trials.specs.Kinds.{ListOf}
 use Rattle.trials.specs.Numbered.{plans_of}
 
 -- a best plan was left, and its worth was answered
@@ -31,6 +33,10 @@ pub record Tried (k t : ℕ) (xs : List ℕ) (trial : Trial) : Type 0 where
   pub plan : Plan
   pub came : DoneSays (refused_with_room k t xs (length room)) (station_of k t) (passes_in xs) room done plan
   pub says : TrueTrial (station_of k t) (passes_in xs) done plan trial
+
+-- it is true of some list of a kind
+abbrev pub TriedOf : Kind → Trial → Type 0
+TriedOf kind trial = (k t : ℕ) × (xs : List ℕ) × ListOf kind k t xs × Tried k t xs trial
 
 -- a best plan of the list lets a pass go
 abbrev pub lets_go : Trial → Bool

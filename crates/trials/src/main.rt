@@ -1,6 +1,10 @@
 // Plans random lists of passes, and compares each plan with all plans of its list.
 #![tactic(auto)]
 
+ghost use Rattle.std.specs.Prelude.{◌≡◌, IfOk, All, vec_len};
+ghost use Rattle.trials.specs.declared.TheConstants.{LISTS};
+ghost use Rattle.trials.specs.Trials.{TriedOf};
+
 mod all_plans;
 mod kinds;
 mod lists;
@@ -30,7 +34,10 @@ const KINDS: [Kind; 8] = [
 ];
 
 // Tries random lists of a kind, and prints those that are planned otherwise than they should be.
-fn try_kind(rt: &HostRuntime, rng: &mut SmallRng, kind: Kind) -> io::Result<Vec<Trial>> {
+fn try_kind(rt: &HostRuntime, rng: &mut SmallRng, kind: Kind) -> io::Result<Vec<Trial>>
+    ensures count { IfOk result (λ trials. vec_len trials ≡ LISTS) }
+    ensures tried { IfOk result (λ trials. All (TriedOf kind) trials.items) }
+{
     let mut trials = Vec::new(rt.alloc());
     for _ in 0..LISTS {
         let list = List::random(rt.alloc(), kind, rng)?;
