@@ -5,7 +5,7 @@ use Rattle.passes.specs.Numbers.{pass_at, begun}
 use Rattle.trials.specs.declared.kinds.Kind.{Kind}
 use Rattle.trials.specs.declared.kinds.Kind.TheVariants.{NoPasses, NoTurning, LargeTurning, EqualBegins, Touching, OneDishHears, UnfitMarks}
 
--- how many passes a list of the kind may have: some, or none where the kind is that
+-- how many passes a list of the kind may have: none for `NoPasses`, else at least one
 abbrev pub CountOf : Kind → ℕ → Type 0
 CountOf NoPasses n = n ≡ 0
 CountOf _ n = 0 < n
@@ -23,9 +23,9 @@ TimesOf EqualBegins step length = step ≤ 1
 TimesOf Touching step length = (step ≤ 10) × (step % 10 ≡ 0) × (length ≤ 20) × (length % 10 ≡ 0)
 TimesOf _ step length = ⊤
 
--- which marks pass i may have, where there are k dishes: of one dish; or, for every second pass, of none that is there
+-- which marks pass i may have, where there are k dishes: of one that is there; or, for every second pass, of none that is
 abbrev pub MarksOf : Kind → (k i marks : ℕ) → Type 0
-MarksOf OneDishHears k i marks = (d : ℕ) × (d ≤ 3) × (marks ≡ 2 ^ d)
+MarksOf OneDishHears k i marks = (d : ℕ) × (d < k) × (marks ≡ 2 ^ d)
 MarksOf UnfitMarks k i marks = i % 2 ≡ 0 → marks % 2 ^ k ≡ 0
 MarksOf _ k i marks = ⊤
 

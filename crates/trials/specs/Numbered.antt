@@ -10,7 +10,7 @@ unfoldable pub plan_numbered : (base number : ℕ) → (n : ℕ) → Plan
 plan_numbered base number zero = []
 plan_numbered base number (suc n) = number % base ∷ plan_numbered base (number / base) n
 
--- how many plans of a list name dishes that are there, or none
+-- how many plans of a list name, for each pass, a dish that is there or no dish
 abbrev pub plans_of : Station → List Pass → ℕ
 plans_of s ps = (s.dishes + 1) ^ length ps
 

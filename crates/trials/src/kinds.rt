@@ -1,6 +1,7 @@
-// Kinds of random lists.
+// Kinds of random cases.
 ghost use Rattle.std.specs.Prelude.{◌≡◌, ◌+◌, ◌<◌, ◌≤◌, true};
 ghost use Rattle.passes.specs.Checks.{in_range};
+ghost use Rattle.trials.specs.declared.kinds.TheConstants.{MOST_PASSES};
 ghost use Rattle.trials.specs.Kinds.{CountOf, TurnOf, TimesOf, MarksOf, PassOf};
 
 use passes::Pass;
@@ -10,20 +11,20 @@ use std::fmt;
 // So few that all plans of a list can be tried.
 const MOST_PASSES: u32 = 6;
 
-// What the lists of a kind have in common.
+// What the cases of a kind have in common.
 #[derive(Clone, Copy)]
 pub enum Kind {
     NoPasses,
     // Nothing but that they pass the checks.
     Mixed,
     NoTurning,
-    // Dishes take longer to turn than most passes last.
+    // Dishes take 50,000 seconds to turn or more, and passes last up to 100,000.
     LargeTurning,
     // Passes begin as the ones before them do, or a second later.
     EqualBegins,
-    // Passes begin as others end, and dishes take no time to turn, or a second.
+    // Passes begin and end at whole tens, so that some begin as others end, and dishes take no time to turn, or a second.
     Touching,
-    // Each pass has the mark of one dish.
+    // Each pass has the mark of one dish, which is there.
     OneDishHears,
     // Every second pass has only marks of dishes that aren't there.
     UnfitMarks,
@@ -45,9 +46,9 @@ impl fmt::Display for Kind {
 }
 
 impl Kind {
-    // How many passes a list has.
+    // How many passes a case has.
     pub fn count<R: Rng>(self, rng: &mut R) -> u32
-        ensures few { result ≤ 6 }
+        ensures few { result ≤ MOST_PASSES }
         ensures kind { CountOf self result }
     {
         match self {
@@ -72,6 +73,7 @@ impl Kind {
     // A pass, for so many dishes, at its place in the list, after one that begins in the second `before`.
     #[tactic(auto, using(std::proofs::lemmas::Bool::Decides::nat_tests), unfolding(passes::specs::Checks::in_range))]
     pub fn pass<R: Rng>(self, rng: &mut R, dishes: u32, place: u32, before: u32) -> Pass
+        requires some_dishes { 0 < dishes }
         requires few_dishes { dishes ≤ 4 }
         requires early { before ≤ 500000 }
         ensures range { in_range result ≡ true }
@@ -106,13 +108,14 @@ impl Kind {
 
     // Of which of the dishes it has the marks.
     fn marks<R: Rng>(self, rng: &mut R, dishes: u32, place: u32) -> u8
-        requires { dishes ≤ 4 }
+        requires some_dishes { 0 < dishes }
+        requires few_dishes { dishes ≤ 4 }
         ensures small { result ≤ 15 }
         ensures kind { MarksOf self dishes place result }
     {
         let marks = rng.random_range(0..=15);
         match self {
-            Kind::OneDishHears => 1 << rng.random_range(0..=3u32),
+            Kind::OneDishHears => 1 << rng.random_range(0..dishes),
             Kind::UnfitMarks if place % 2 == 0 => marks >> dishes << dishes,
             _ => marks,
         }

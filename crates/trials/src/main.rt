@@ -1,26 +1,26 @@
-// Plans random lists of passes, and compares each plan with all plans of its list.
+// Plans random cases, and compares each plan with all plans.
 #![tactic(auto)]
 
 ghost use Rattle.std.specs.Prelude.{◌≡◌, IfOk, All, vec_len};
-ghost use Rattle.trials.specs.declared.TheConstants.{LISTS};
+ghost use Rattle.trials.specs.declared.TheConstants.{CASES};
 ghost use Rattle.trials.specs.Trials.{TriedOf};
 
 mod all_plans;
+mod cases;
 mod kinds;
-mod lists;
 mod trying;
 
+use cases::Case;
 use kinds::Kind;
-use lists::List;
 use rand::SeedableRng;
 use rand::rngs::SmallRng;
 use std::io;
-use trying::{Score, Trial, try_list};
+use trying::{Score, Trial, try_case};
 
 const SEED: u64 = 1;
 
-// How many lists of each kind are tried.
-const LISTS: u32 = 1000;
+// How many cases of each kind are tried.
+const CASES: u32 = 1000;
 
 const KINDS: [Kind; 8] = [
     Kind::NoPasses,
@@ -33,17 +33,17 @@ const KINDS: [Kind; 8] = [
     Kind::UnfitMarks,
 ];
 
-// Tries random lists of a kind, and prints those that are planned otherwise than they should be.
+// Tries random cases of a kind, and prints those that are planned otherwise than they should be.
 fn try_kind(rt: &HostRuntime, rng: &mut SmallRng, kind: Kind) -> io::Result<Vec<Trial>>
-    ensures count { IfOk result (λ trials. vec_len trials ≡ LISTS) }
+    ensures count { IfOk result (λ trials. vec_len trials ≡ CASES) }
     ensures tried { IfOk result (λ trials. All (TriedOf kind) trials.items) }
 {
     let mut trials = Vec::new(rt.alloc());
-    for _ in 0..LISTS {
-        let list = List::random(rt.alloc(), kind, rng)?;
-        let trial = try_list(rt.alloc(), &list)?;
+    for _ in 0..CASES {
+        let case = Case::random(rt.alloc(), kind, rng)?;
+        let trial = try_case(rt.alloc(), &case)?;
         if trial == Trial::Mismatch {
-            println!(rt; "{kind}: mismatch at {list:?}")?;
+            println!(rt; "{kind}: mismatch at {case:?}")?;
         }
         trials.push(trial)?;
     }

@@ -1,17 +1,17 @@
-// What comes of trying lists.
+// What comes of trying cases.
 ghost use Rattle.std.specs.Prelude.{◌≡◌, length, count_by, IfOk};
 ghost use Rattle.passes.specs.Nights.{NightOf, passes_of};
 ghost use Rattle.trials.specs.Numbered.{MostOfAll};
 ghost use Rattle.trials.specs.Trials.{TrueTrial, Tried, lets_go, is_mismatch};
 
 use crate::all_plans::most_worth;
-use crate::lists::List;
+use crate::cases::Case;
 use passes::Night;
 use planner::{Done, plan};
 use std::alloc::{AllocError, Global};
 use std::fmt;
 
-// What came of trying a list.
+// What came of trying a case.
 #[derive(Clone, Copy, PartialEq)]
 pub enum Trial {
     // It has a best plan, which follows every pass.
@@ -22,27 +22,28 @@ pub enum Trial {
     Mismatch,
 }
 
-// Plans a list, and compares what comes of it with all its plans.
-pub fn try_list(alloc: Global, list: &List) -> Result<Trial, AllocError>
-    ensures { IfOk result (Tried list.now.dishes list.now.turn list.now.numbers.items) }
+// Plans a case, and compares what comes of it with all plans.
+pub fn try_case(alloc: Global, case: &Case) -> Result<Trial, AllocError>
+    ensures { IfOk result (Tried case.now.dishes case.now.turn case.now.numbers.items) }
 {
-    let Ok(night) = Night::read(list.dishes, list.turn, list.numbers.as_slice()) else {
+    let Ok(night) = Night::read(case.dishes, case.turn, case.numbers.as_slice()) else {
         return Ok(Trial::Mismatch);
     };
     let count = night.passes().len();
+    // no dish has this number, so that a room that isn't written is found out
     let mut room = vec![in alloc; u8::MAX; count]?;
     let mut spare = vec![in alloc; 0; count]?;
-    Ok(try_night(list, &night, room.as_mut_slice(), spare.as_mut_slice()))
+    Ok(try_night(case, &night, room.as_mut_slice(), spare.as_mut_slice()))
 }
 
-// The same, for the night that was read from the list. The plan is made in the first room, and all plans in the other.
-fn try_night(list: &List, night: &Night, room: &mut [u8], spare: &mut [u8]) -> Trial
-    requires read { NightOf list.now.dishes list.now.turn list.now.numbers.items night.now }
+// The same, for the night that was read from the case. The plan is made in the first room, and all plans in the other.
+fn try_night(case: &Case, night: &Night, room: &mut [u8], spare: &mut [u8]) -> Trial
+    requires read { NightOf case.now.dishes case.now.turn case.now.numbers.items night.now }
     requires one_each { length room.old ≡ length (passes_of night.now) }
     requires one_each_too { length spare.old ≡ length (passes_of night.now) }
-    ensures { Tried list.now.dishes list.now.turn list.now.numbers.items result }
+    ensures { Tried case.now.dishes case.now.turn case.now.numbers.items result }
 {
-    let done = plan(list.dishes, list.turn, list.numbers.as_slice(), room);
+    let done = plan(case.dishes, case.turn, case.numbers.as_slice(), room);
     let most = most_worth(night, spare);
     compare(night, done, room, most)
 }
@@ -68,7 +69,7 @@ fn compare(night: &Night, done: Done, room: &[u8], most: Option<u64>) -> Trial
     }
 }
 
-// How many lists were tried, and what came of it.
+// How many cases were tried, and what came of it.
 #[derive(Clone, Copy)]
 pub struct Score {
     lists: usize,

@@ -1,14 +1,14 @@
-use Rattle.std.proofs.Common.{◌≡◌, ◌*◌, ◌/◌, ◌%◌, ◌^◌, ◌≤◌, ◌∙◌, arith, one-mul, pow_mono}
+use Rattle.std.proofs.Common.{◌≡◌, ◌*◌, ◌/◌, ◌%◌, ◌^◌, ◌<◌, ◌≤◌, ◌∙◌, arith, one-mul, pow_mono}
 use Rattle.std.proofs.Math.Nat.{div-mul-le_self, mod-eq_of_lt, mul-mod_left}
 use Rattle.trials.proofs.kinds.Kind.marks.Goals as goal
 
 pub returns-in-OneDishHears : goal.returns-in-OneDishHears
 returns-in-OneDishHears g c =
     let d = c.random_range.result in
-    let few : d ≤ 3 = omega (arith, c.random_range.ensures.within.1, c.new-in-OneDishHears.ensures.end) in
-    let small : 2 ^ d ≤ 8 = pow_mono {j = 3} few in
+    let there : d < c.args.dishes = c.random_range.ensures.within.1 in
+    let small : 2 ^ d ≤ 8 = pow_mono {j = 3} (omega (arith, there, c.requires.few_dishes)) in
     let same : 1 * 2 ^ d % 256 ≡ 2 ^ d = mod-eq_of_lt (omega (arith, small, one-mul (2 ^ d))) ∙ one-mul (2 ^ d) in
-    record { small = omega (arith, small, same); kind = rw c.in-OneDishHears.is (d, few, same) }
+    record { small = omega (arith, small, same); kind = rw c.in-OneDishHears.is (d, there, same) }
 
 pub returns-in-UnfitMarks-clause-kind : goal.returns-in-UnfitMarks-clause-kind
 returns-in-UnfitMarks-clause-kind g c =

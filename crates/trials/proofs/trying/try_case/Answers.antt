@@ -4,13 +4,13 @@ use Rattle.passes.specs.Numbers.{passes_in}
 use Rattle.passes.specs.Refusals.{number_of}
 use Rattle.passes.proofs.Taking.{refused_anyway}
 use Rattle.planner.specs.declared.planning.Done.TheVariants.{Refused}
-use Rattle.trials.proofs.trying.try_list.Goals as goal
+use Rattle.trials.proofs.trying.try_case.Goals as goal
 
 pub returns-in_default : goal.returns-in_default
 returns-in_default c =
     let why = c.in_default.field-0 in
     let told = rw c.as_slice.ensures.value at c.in_default.ensures.refusal in
-    let count = length (passes_in c.args.list.now.numbers.items) in
+    let count = length (passes_in c.args.case.now.numbers.items) in
     let room = replicate count 0 in
     record {
       room = room;

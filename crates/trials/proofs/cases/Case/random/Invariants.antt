@@ -1,6 +1,6 @@
 use Rattle.std.proofs.Common.{◌≤◌}
 use Rattle.trials.proofs.Growing.{Growing}
-use Rattle.trials.proofs.lists.List.random.Given as goal
+use Rattle.trials.proofs.cases.Case.random.Given as goal
 
 -- the passes so far are sound and of the kind, and the last begins in the second `from`
 abbrev pub invariant-loop-place : goal.invariant-loop-place

@@ -3,7 +3,7 @@ use Rattle.std.proofs.lemmas.Bool.Decides.{nat_tests}
 use Rattle.passes.specs.Checks.{dishes_ok, turning_ok}
 use Rattle.trials.specs.Kinds.{begin_before}
 use Rattle.trials.proofs.Growing.{one_more, taken}
-use Rattle.trials.proofs.lists.List.random.Goals as goal
+use Rattle.trials.proofs.cases.Case.random.Goals as goal
 
 pub loop-place-init : goal.loop-place-init
 unfolding begin_before

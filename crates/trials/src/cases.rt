@@ -1,6 +1,7 @@
-// Random lists of passes.
-ghost use Rattle.std.specs.Prelude.{◌≡◌, ◌≤◌, None, IfOk, vec_len};
+// Random cases: a station, and a list of passes over it.
+ghost use Rattle.std.specs.Prelude.{◌≡◌, ◌*◌, ◌≤◌, None, IfOk, length};
 ghost use Rattle.passes.specs.Refusals.{refused};
+ghost use Rattle.trials.specs.declared.kinds.TheConstants.{MOST_PASSES};
 ghost use Rattle.trials.specs.Kinds.{ListOf};
 
 use crate::kinds::Kind;
@@ -9,18 +10,18 @@ use std::alloc::{AllocError, Global};
 
 // A station, and passes over it as numbers, four to a pass.
 #[derive(Debug, Drop)]
-pub struct List {
+pub struct Case {
     pub dishes: u64,
     pub turn: u64,
     pub numbers: Vec<u32>,
 }
 
-impl List {
-    // A random list of a kind.
-    pub fn random<R: Rng>(alloc: Global, kind: Kind, rng: &mut R) -> Result<List, AllocError>
-        ensures taken { IfOk result (λ l. refused l.dishes l.turn l.numbers.items ≡ None) }
-        ensures few { IfOk result (λ l. vec_len l.numbers ≤ 24) }
-        ensures kind { IfOk result (λ l. ListOf kind l.dishes l.turn l.numbers.items) }
+impl Case {
+    // A random case of a kind.
+    pub fn random<R: Rng>(alloc: Global, kind: Kind, rng: &mut R) -> Result<Case, AllocError>
+        ensures taken { IfOk result (λ case. refused case.dishes case.turn case.numbers.items ≡ None) }
+        ensures few { IfOk result (λ case. length case.numbers.items ≤ 4 * MOST_PASSES) }
+        ensures kind { IfOk result (λ case. ListOf kind case.dishes case.turn case.numbers.items) }
     {
         let dishes = rng.random_range(1..=4u32);
         let turn = kind.turn(rng);
@@ -31,7 +32,7 @@ impl List {
             numbers.extend_from_slice(&[pass.from, pass.to, pass.worth, pass.marks as u32])?;
             from = pass.from;
         }
-        Ok(List {
+        Ok(Case {
             dishes: dishes as u64,
             turn,
             numbers,
