@@ -4,10 +4,10 @@ use Rattle.std.proofs.lemmas.Bool.{cases_lt}
 use Rattle.std.proofs.lemmas.List.{length-append, get_or_append_left, get_or-append-add}
 use Rattle.passes.specs.declared.model.Pass.{Pass}
 use Rattle.passes.specs.Checks.{in_range, dishes_ok, turning_ok}
-use Rattle.passes.specs.Numbers.{begun, pass_at, sound}
+use Rattle.passes.specs.Numbers.{pass_at, sound}
 use Rattle.passes.specs.Refusals.{refused, station_refused, list_refused}
 use Rattle.trials.specs.declared.kinds.Kind.{Kind}
-use Rattle.trials.specs.Kinds.{CountOf, TurnOf, PassOf, ListOf, begin_before}
+use Rattle.trials.specs.Kinds.{PassOf, begin_before}
 use Rattle.passes.proofs.Taking.{none_at_fault, sound_from, sound_says}
 
 -- the numbers of so many passes of a list of a kind, for k dishes, of which the last begins in a given second
@@ -120,9 +120,3 @@ pub taken : (kind : Kind) (dishes turn : ℕ) (xs : List ℕ) (count from : ℕ)
 unfolding refused list_refused station_refused
 taken kind dishes turn xs count from h can turns =
     rw (can, turns, none_at_fault xs (λ k l. h.sound_so_far k (omega (arith, h.long)))) refl
-
--- and is of the kind
-pub of_kind : (kind : Kind) (dishes turn : ℕ) (xs : List ℕ) (count from : ℕ) → Growing kind dishes xs count from → CountOf kind count → TurnOf kind turn → ListOf kind dishes turn xs
-of_kind kind dishes turn xs count from h counted turns =
-    let all : begun xs ≡ count = omega (arith, h.long) in
-    record { count = rw all counted; turn = turns; each = λ i l. h.kind_so_far i (omega (arith, all)) }

@@ -40,7 +40,7 @@ pub fn try_case(alloc: Global, case: &Case) -> Result<Trial, AllocError>
 fn try_night(case: &Case, night: &Night, room: &mut [u8], spare: &mut [u8]) -> Trial
     requires read { NightOf case.now.dishes case.now.turn case.now.numbers.items night.now }
     requires one_each { length room.old ≡ length (passes_of night.now) }
-    requires one_each_too { length spare.old ≡ length (passes_of night.now) }
+    requires a_place_each { length spare.old ≡ length (passes_of night.now) }
     ensures { Tried case.now.dishes case.now.turn case.now.numbers.items result }
 {
     let done = plan(case.dishes, case.turn, case.numbers.as_slice(), room);
@@ -49,7 +49,7 @@ fn try_night(case: &Case, night: &Night, room: &mut [u8], spare: &mut [u8]) -> T
 }
 
 // Compares what was answered, and left in the room, with what a best plan is worth.
-#[tactic(auto, using(crate::proofs::Comparing::best_if_worth, crate::proofs::Comparing::right_answer, crate::proofs::Comparing::right_verdict))]
+#[tactic(auto, using(crate::proofs::Comparing::best_if_worth, crate::proofs::Comparing::worth_if_best))]
 fn compare(night: &Night, done: Done, room: &[u8], most: Option<u64>) -> Trial
     requires { MostOfAll night.now.station (passes_of night.now) most }
     ensures { TrueTrial night.now.station (passes_of night.now) done room.now result }
