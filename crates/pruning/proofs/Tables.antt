@@ -1,0 +1,78 @@
+-- Why the tables of single dishes, once prices are paid, bound what they gain together. Assumes nothing.
+use Rattle.std.proofs.Common.{◌≡◌, ℕ, ◌+◌, ◌-◌, ◌*◌, ◌<◌, ◌≤◌, max, Bool, true, not, List, length, drop, get_or, sum, sym, ap, ◌∙◌, ⊎_elim, arith}
+use Rattle.std.specs.Prelude.{slice_index, nat_le}
+use Rattle.std.specs.List.{position_or_len}
+use Rattle.std.proofs.lemmas.Bool.{cases_lt}
+use Rattle.std.proofs.lemmas.Bool.Decides.{nat_tests}
+use Rattle.std.proofs.lemmas.List.FromFn.{get_or-map-range_with_len, length-map-range_with_len}
+use Rattle.std.proofs.lemmas.List.Sums.{sum_by-drop_more, fails_before_first, passes_at_first, prefix_len-le-length}
+use Rattle.passes.specs.declared.model.Pass.{Pass}
+use Rattle.passes.specs.declared.model.Station.{Station}
+use Rattle.passes.specs.Rule.{no_pass, nth}
+use Rattle.capacity.specs.Alone.{GainsMost, RightFrom}
+use Rattle.capacity.specs.Order.{InTime, FirstFrom}
+use Rattle.capacity.proofs.Tables.{one_most, entry_falls, entry_able}
+use Rattle.pruning.specs.declared.rounding.TheConstants.{MOST_DISHES}
+use Rattle.pruning.specs.Prices.{station_of_dish, Fair, less_prices, entry, TablesAt}
+use Rattle.pruning.specs.Rounding.{suits, next_pass, free_after}
+use Rattle.pruning.specs.Suiting.{next_within, next_suits}
+use Rattle.pruning.specs.Statements.{PricesBound}
+use Rattle.pruning.proofs.Bounding.{Bounds, falls_to, bounded}
+
+-- the first pass that begins in the second x or later
+first_from : (ps : List Pass) (x : ℕ) → InTime ps → (m : ℕ) × FirstFrom ps x m
+first_from ps x time =
+    let late : Pass → Bool = λ p. nat_le x p.from in
+    let m = position_or_len late ps in
+    let within : m ≤ length ps = prefix_len-le-length (λ p. not (late p)) ps in (
+      m,
+      record {
+        within = within;
+        before = λ k l. let early = fails_before_first late ps k no_pass l in grind (arith, nat_tests);
+        after = λ k l h. let at = passes_at_first late ps no_pass (omega arith) in let order = time.order m k l h in grind (arith, nat_tests);
+      },
+    )
+
+module _ (turns : List ℕ) (ps : List Pass) (n : ℕ) (prices : List ℕ) (time : InTime ps) (fair : Fair n ps prices) where
+  -- what is gained by following a pass
+  gain_at : (k : ℕ) → k < length ps → get_or (less_prices n ps prices) k 0 ≡ n * (nth ps k).worth - slice_index prices k
+  gain_at k l = get_or-map-range_with_len (λ i. n * (nth ps i).worth - slice_index prices i) 0 (length ps) k k 0 l (omega arith)
+
+  one_gain_each : length (less_prices n ps prices) ≡ length ps
+  one_gain_each = length-map-range_with_len (λ i. n * (nth ps i).worth - slice_index prices i) 0 (length ps)
+
+  -- a dish's table
+  module _ (d : ℕ) (l : d < length turns) (table : List ℕ) (right : RightFrom 0 (station_of_dish turns d) d ps (less_prices n ps prices) table) where
+    entry_of : (k : ℕ) → k ≤ length ps → GainsMost (station_of_dish turns d) d (drop k ps) (drop k (less_prices n ps prices)) (slice_index table k)
+    entry_of k h = right k (omega arith) h
+
+    pub table_falls : (k : ℕ) → k < length ps → slice_index table (k + 1) ≤ slice_index table k
+    table_falls k h = entry_falls (station_of_dish turns d) d ps (less_prices n ps prices) one_gain_each k h _ _ (entry_of k (omega arith)) (entry_of (k + 1) (omega arith))
+
+    pub table_takes : (k : ℕ) → k < length ps → suits turns d 0 (nth ps k) ≡ true → n * (nth ps k).worth + slice_index table (next_pass turns ps d (k + 1) (free_after turns (nth ps k) d)) ≤ slice_index prices k + slice_index table k
+    table_takes k h suited =
+        let s = station_of_dish turns d in
+        let x = free_after turns (nth ps k) d in
+        let first = first_from ps x time in
+        let next = next_pass turns ps d (k + 1) x in
+        let within = next_within turns ps d x (k + 1) (omega arith) in
+        let later : first.0 ≤ next =
+            ⊎_elim
+            (λ before. let suits_it = next_suits turns ps d x (k + 1) (omega arith) (omega (arith, first.1.within)) in let early = first.1.before next before in absurd (grind (arith, nat_tests)))
+            (λ not. not)
+            (cases_lt next first.0) in
+        let low = falls_to (length ps) (λ j. slice_index table j) table_falls first.0 next later within in
+        let most = entry_able s ps time k first.0 h first.1 d (less_prices n ps prices) one_gain_each (grind (arith, nat_tests)) _ _ (entry_of (k + 1) (omega arith)) (entry_of first.0 first.1.within) in
+        let same = one_most s d _ _ _ _ (entry_of k (omega arith)) most in
+        omega (arith, same, low, gain_at k h, fair.at_most k h)
+
+  pub table_bounds : (tables : List (List ℕ)) → TablesAt n turns ps prices tables → Bounds turns ps n (λ k. slice_index prices k) (λ k. sum (drop k prices)) (entry tables)
+  table_bounds tables right = record {
+    paid = λ k l. omega (arith, sum_by-drop_more (λ x. x) prices k 0 (omega (arith, fair.one_each)));
+    falls = λ d k l h. table_falls d l _ (right d l) k h;
+    takes = λ d k l h suited. table_takes d l _ (right d l) k h suited;
+  }
+
+pub prices_bound : PricesBound
+prices_bound turns ps n prices tables few time fair right i s cs e up w =
+    bounded turns ps few n (λ k. slice_index prices k) (λ k. sum (drop k prices)) (entry tables) (table_bounds turns ps n prices time fair tables right) cs i s e up w

@@ -1,0 +1,5 @@
+use Rattle.pruning.proofs.Tables.{prices_bound}
+use Rattle.pruning.proofs.laws.prices_bound_stands.Goals as goal
+
+pub returns : goal.returns
+returns c = prices_bound

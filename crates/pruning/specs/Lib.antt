@@ -1,0 +1,5 @@
+pub mod Rounding
+pub mod Suiting
+pub mod Lawful
+pub mod Prices
+pub mod Statements

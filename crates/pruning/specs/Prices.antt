@@ -1,0 +1,41 @@
+-- Prices of passes, and what they bound. Assumes nothing: these are definitions.
+use Rattle.std.specs.Prelude.{◌≡◌, ℕ, suc, zero, ◌+◌, ◌-◌, ◌*◌, ◌<◌, ◌≤◌, List, [], map, length, drop, sum, slice_index, slice_index_or}
+use Rattle.std.specs.List.{range_with_len}
+use Rattle.engine.specs.Runs.{Way}
+use Rattle.engine.specs.Gaining.{gained}
+use Rattle.passes.specs.declared.model.Pass.{Pass}
+use Rattle.passes.specs.declared.model.Station.{Station}
+use Rattle.passes.specs.Rule.{nth}
+use Rattle.capacity.specs.Alone.{RightFrom}
+use Rattle.pruning.specs.declared.rounding.NextPasses.{NextPasses}
+use Rattle.pruning.specs.Rounding.{Upcoming, rounded_night}
+
+-- the station as dish d sees it: as if all its dishes took the time to turn that this one takes
+abbrev pub station_of_dish : (turns : List ℕ) → ℕ → Station
+station_of_dish turns d = record { dishes = length turns; turn = slice_index turns d }
+
+-- a price for each pass, in n-th parts of what passes are worth, and none above what its pass is worth
+pub record Fair (n : ℕ) (ps : List Pass) (prices : List ℕ) : Type 0 where
+  pub one_each : length prices ≡ length ps
+  pub at_most : (i : ℕ) → i < length ps → slice_index prices i ≤ n * (nth ps i).worth
+
+-- what is gained by following each pass, in n-th parts, once its price is paid
+abbrev pub less_prices : ℕ → List Pass → (prices : List ℕ) → List ℕ
+less_prices n ps prices = map (λ i. n * (nth ps i).worth - slice_index prices i) (range_with_len 0 (length ps))
+
+-- what a dish's table has from pass k on
+abbrev pub entry : (tables : List (List ℕ)) → (d k : ℕ) → ℕ
+entry tables d k = slice_index (slice_index_or tables d []) k
+
+-- each dish has a table of what it alone can gain at most from each pass on, once prices are paid
+abbrev pub TablesAt : ℕ → (turns : List ℕ) → List Pass → (prices : List ℕ) → (tables : List (List ℕ)) → Type 0
+TablesAt n turns ps prices tables = (d : ℕ) → d < length turns → RightFrom 0 (station_of_dish turns d) d ps (less_prices n ps prices) (slice_index_or tables d [])
+
+-- a number of each of the first k dishes, together
+unfoldable pub together : ℕ → (ℕ → ℕ) → ℕ
+together zero f = 0
+together (suc k) f = together k f + f k
+
+-- what each dish alone can gain from its next pass on, together
+abbrev pub from_next : (turns : List ℕ) → (tables : List (List ℕ)) → NextPasses → ℕ
+from_next turns tables s = together (length turns) (λ d. entry tables d (slice_index s.next d))

@@ -1,0 +1,8 @@
+// What the search for a night's best plan may leave out.
+#![tactic(auto)]
+
+mod laws;
+mod rounding;
+
+pub use laws::prices_bound_stands;
+pub use rounding::{MOST_DISHES, MOST_PASSES, NextPasses, Rounded};
