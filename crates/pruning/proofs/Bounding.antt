@@ -16,14 +16,13 @@ use Rattle.pruning.specs.Suiting.{each_dish_at, next_within}
 use Rattle.pruning.specs.Lawful.{went_on, then_followed, then_waits, then_kept, then_cases, rounded_moves}
 use Rattle.pruning.proofs.Together.{together_le, together_less}
 
--- numbers by which what is left to gain is bounded: left k of the passes from pass k on, and table d k of dish d if pass k is its next one
-pub record Bounds (turns : List ℕ) (ps : List Pass) (n : ℕ) (price left : ℕ → ℕ) (table : ℕ → ℕ → ℕ) : Type 0 where
-  -- the passes from one on have its price more than those behind it
-  pub paid : (k : ℕ) → k < length ps → price k + left (k + 1) ≤ left k
-  -- a dish that leaves a pass out has no more
+-- numbers by which what is left to gain is bounded: left k whatever the passes from pass k on may be worth at their prices, and table d k what dish d
+-- may gain by them on top of that
+pub record Bounds (turns : List ℕ) (ps : List Pass) (n : ℕ) (left : ℕ → ℕ) (table : ℕ → ℕ → ℕ) : Type 0 where
+  pub left_falls : (k : ℕ) → k < length ps → left (k + 1) ≤ left k
   pub falls : (d k : ℕ) → d < length turns → k < length ps → table d (k + 1) ≤ table d k
-  -- one that follows it has less by what it is worth, once its price is paid
-  pub takes : (d k : ℕ) → d < length turns → k < length ps → suits turns d 0 (nth ps k) ≡ true → n * (nth ps k).worth + table d (next_pass turns ps d (k + 1) (free_after turns (nth ps k) d)) ≤ price k + table d k
+  -- a dish that follows a pass gains no more than both fall by
+  pub takes : (d k : ℕ) → d < length turns → k < length ps → suits turns d 0 (nth ps k) ≡ true → n * (nth ps k).worth + left (k + 1) + table d (next_pass turns ps d (k + 1) (free_after turns (nth ps k) d)) ≤ left k + table d k
 
 -- what falls from one number to the next falls from any to any later one
 module _ (n : ℕ) (f : ℕ → ℕ) (falls : (k : ℕ) → k < n → f (k + 1) ≤ f k) where
@@ -39,7 +38,7 @@ module _ (n : ℕ) (f : ℕ → ℕ) (falls : (k : ℕ) → k < n → f (k + 1) 
       let there : k + (m - k) ≡ m = omega arith in
       rw there at (falls_by k (m - k) (omega arith))
 
-module _ (turns : List ℕ) (ps : List Pass) (few : length turns ≤ MOST_DISHES) (n : ℕ) (price left : ℕ → ℕ) (table : ℕ → ℕ → ℕ) (bounds : Bounds turns ps n price left table) where
+module _ (turns : List ℕ) (ps : List Pass) (few : length turns ≤ MOST_DISHES) (n : ℕ) (left : ℕ → ℕ) (table : ℕ → ℕ → ℕ) (bounds : Bounds turns ps n left table) where
   -- what the dishes can gain from their next passes on
   abbrev pub ahead : NextPasses → ℕ
   ahead s = together (length turns) (λ d. table d (slice_index s.next d))
@@ -64,25 +63,25 @@ module _ (turns : List ℕ) (ps : List Pass) (few : length turns ≤ MOST_DISHES
         (λ other here. on_from d 0 l here)
         (λ other later. omega arith)
 
-    -- and the dish that follows the pass has less by what that is worth, once its price is paid
-    less_one : (d : ℕ) → d < length turns → c ≡ d + 1 → n * (nth ps i).worth + table d (next_then turns ps i c s d) ≤ price i + table d (slice_index s.next d)
+    -- and the dish that follows the pass gains no more than it has less, and what is left is less
+    less_one : (d : ℕ) → d < length turns → c ≡ d + 1 → n * (nth ps i).worth + left (i + 1) + table d (next_then turns ps i c s d) ≤ left i + table d (slice_index s.next d)
     less_one d l same =
         let here = was_next d same in
         let suited = rw here at ((up.each d (omega arith)).suited (omega arith)) in
         rw (then_followed turns ps i c s d same, here) (bounds.takes d i l within suited)
 
-    ahead_then : n * (rounded_night turns ps).gain i c s + ahead (each_dish (next_then turns ps i c s)) ≤ price i + ahead s
+    ahead_then : n * (rounded_night turns ps).gain i c s + left (i + 1) + ahead (each_dish (next_then turns ps i c s)) ≤ left i + ahead s
     ahead_then =
         let then : ℕ → ℕ = λ d. table d (slice_index (each_dish (next_then turns ps i c s)).next d) in
         let now : ℕ → ℕ = λ d. table d (slice_index s.next d) in
         let is : (d : ℕ) → d < length turns → then d ≡ table d (next_then turns ps i c s d) = λ d l. ap (table d) (each_dish_at (next_then turns ps i c s) d (omega arith)) in
         let each : (d : ℕ) → d < length turns → then d ≤ now d = λ d l. omega (arith, is d l, less_each d l) in
         ⊎_elim
-        (λ none. rw none (omega (arith, together_le then now (length turns) each)))
+        (λ none. rw none (omega (arith, together_le then now (length turns) each, bounds.left_falls i within)))
         (λ some.
         let gain : (rounded_night turns ps).gain i c s ≡ (nth ps i).worth = grind (arith, nat_tests) in
         let there : c ≤ length turns = grind (arith, nat_tests) in
-        rw gain (together_less then now (length turns) (c - 1) (n * (nth ps i).worth) (price i) (omega arith) each
+        rw gain (together_less then now (length turns) (c - 1) (n * (nth ps i).worth + left (i + 1)) (left i) (omega arith) each
             (omega (arith, is (c - 1) (omega arith), less_one (c - 1) (omega arith) (omega arith)))))
         (cases_eq c 0)
 
@@ -96,5 +95,4 @@ module _ (turns : List ℕ) (ps : List Pass) (few : length turns ≤ MOST_DISHES
       let up₁ = (rounded_moves turns ps).fine_step i c s first.0 within up first.1 in
       let rest = bounded cs (i + 1) first.0 e up₁ (record { one_each = omega (arith, w.one_each); ends = first.2 }) in
       let here = ahead_then i c s within up went.0 in
-      let paid = bounds.paid i within in
-      rw first.1 (omega (arith, mul-add n ((rounded_night turns ps).gain i c s) (gained (rounded_night turns ps).moves.step (rounded_night turns ps).gain (i + 1) first.0 cs), rest, here, paid, ap ahead went.1))
+      rw first.1 (omega (arith, mul-add n ((rounded_night turns ps).gain i c s) (gained (rounded_night turns ps).moves.step (rounded_night turns ps).gain (i + 1) first.0 cs), rest, here, ap ahead went.1))

@@ -1,3 +1,5 @@
 pub mod Together
 pub mod Bounding
 pub mod Tables
+pub mod Covering
+pub mod Adding

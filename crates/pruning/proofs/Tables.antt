@@ -66,13 +66,16 @@ module _ (turns : List ℕ) (ps : List Pass) (n : ℕ) (prices : List ℕ) (time
         let same = one_most s d _ _ _ _ (entry_of k (omega arith)) most in
         omega (arith, same, low, gain_at k h, fair.at_most k h)
 
-  pub table_bounds : (tables : List (List ℕ)) → TablesAt n turns ps prices tables → Bounds turns ps n (λ k. slice_index prices k) (λ k. sum (drop k prices)) (entry tables)
+  pub table_bounds : (tables : List (List ℕ)) → TablesAt n turns ps prices tables → Bounds turns ps n (λ k. sum (drop k prices)) (entry tables)
   table_bounds tables right = record {
-    paid = λ k l. omega (arith, sum_by-drop_more (λ x. x) prices k 0 (omega (arith, fair.one_each)));
+    left_falls = λ k l. omega (arith, left_at k l);
     falls = λ d k l h. table_falls d l _ (right d l) k h;
-    takes = λ d k l h suited. table_takes d l _ (right d l) k h suited;
+    takes = λ d k l h suited. omega (arith, left_at k h, table_takes d l _ (right d l) k h suited);
   }
+    where
+      left_at : (k : ℕ) → k < length ps → sum (drop k prices) ≡ slice_index prices k + sum (drop (k + 1) prices)
+      left_at k l = sum_by-drop_more (λ x. x) prices k 0 (omega (arith, fair.one_each))
 
 pub prices_bound : PricesBound
 prices_bound turns ps n prices tables few time fair right i s cs e up w =
-    bounded turns ps few n (λ k. slice_index prices k) (λ k. sum (drop k prices)) (entry tables) (table_bounds turns ps n prices time fair tables right) cs i s e up w
+    bounded turns ps few n (λ k. sum (drop k prices)) (entry tables) (table_bounds turns ps n prices time fair tables right) cs i s e up w

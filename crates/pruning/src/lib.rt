@@ -2,7 +2,9 @@
 #![tactic(auto)]
 
 mod laws;
+mod prices;
 mod rounding;
 
 pub use laws::prices_bound_stands;
+pub use prices::{Priced, SCALE};
 pub use rounding::{MOST_DISHES, MOST_PASSES, NextPasses, Rounded};

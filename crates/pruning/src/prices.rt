@@ -1,0 +1,103 @@
+// A night whose passes have prices, by which what is left to gain is bounded.
+ghost use Rattle.std.specs.Prelude.{◌≡◌, ℕ, ◌+◌, ◌*◌, ◌^◌, ◌<◌, ◌≤◌, length, take, drop, sum, slice_index};
+ghost use Rattle.passes.specs.Rule.{nth};
+ghost use Rattle.capacity.specs.Alone.{RightFrom};
+ghost use Rattle.capacity.specs.Order.{InTime};
+ghost use Rattle.pruning.specs.declared.rounding.TheConstants.{MOST_DISHES, MOST_PASSES};
+ghost use Rattle.pruning.specs.declared.prices.TheConstants.{SCALE};
+ghost use Rattle.pruning.specs.Rounding.{Small};
+ghost use Rattle.pruning.specs.Prices.{station_of_dish, NoneAbove, less_prices, LeftFalls, TablesFall, FallsPay};
+
+use crate::rounding::{MOST_DISHES, MOST_PASSES, Rounded};
+use capacity::OneDish;
+use passes::{Pass, Station};
+
+// Prices are whole numbers of so many parts of what passes are worth.
+pub const SCALE: u64 = 1024;
+
+const ENTRIES: usize = MOST_PASSES + 1;
+
+// A night, and what its passes and dishes may still gain.
+// Kept: tables are as long as the most passes ask, since memory is fixed.
+#[derive(Drop)]
+pub struct Priced<'a> {
+    pub night: Rounded<'a>,
+    // The prices of the passes from each on together.
+    left: [u64; ENTRIES],
+    // What each dish alone can gain from each pass on, once prices are paid.
+    tables: [[u64; ENTRIES]; MOST_DISHES],
+    ghost left_falls: { LeftFalls night.passes.now left },
+    ghost tables_fall: { TablesFall night.turns.now night.passes.now tables },
+    ghost falls_pay: { FallsPay SCALE night.turns.now night.passes.now left tables },
+}
+
+// What a pass is worth, in the parts that prices are counted in.
+pub fn full_price(pass: &Pass) -> u64
+    ensures { result ≡ SCALE * pass.now.worth }
+{
+    SCALE * pass.worth as u64
+}
+
+// Prices none of which is above what its pass is worth.
+// Kept: by index, as the rooms are arrays, of which the front is used.
+fn fair_prices(passes: &[Pass], prices: &[u64; MOST_PASSES]) -> [u64; MOST_PASSES]
+    requires few_passes { length passes.now ≤ MOST_PASSES }
+    ensures { NoneAbove SCALE passes.now result }
+{
+    let mut fair = [0; MOST_PASSES];
+    for (i, pass) in passes.iter().enumerate() {
+        fair[i] = prices[i].min(full_price(pass));
+    }
+    fair
+}
+
+// What the prices of the passes from each on come to, from the last to the first.
+// Kept: by index, since one entry is written and the one behind it is read.
+fn add_up(prices: &[u64]) -> [u64; ENTRIES]
+    requires few_prices { length prices.now ≤ MOST_PASSES }
+    requires small { (i : ℕ) → i < length prices.now → slice_index prices.now i < 2 ^ 42 }
+    ensures { (k : ℕ) → k ≤ length prices.now → slice_index result k ≡ sum (drop k prices.now) }
+{
+    let mut left = [0; ENTRIES];
+    for i in (0..prices.len()).rev() {
+        left[i] = prices[i] + left[i + 1];
+    }
+    left
+}
+
+// What is gained by following each pass, once its price is paid.
+// Kept: by index, as in `fair_prices`.
+fn less_prices(passes: &[Pass], prices: &[u64]) -> [u64; MOST_PASSES]
+    requires few_passes { length passes.now ≤ MOST_PASSES }
+    requires one_each { length prices.now ≡ length passes.now }
+    requires none_above { NoneAbove SCALE passes.now prices.now }
+    ensures { take (length passes.now) result ≡ less_prices SCALE passes.now prices.now }
+{
+    let mut gains = [0; MOST_PASSES];
+    for (i, pass) in passes.iter().enumerate() {
+        gains[i] = full_price(pass) - prices[i];
+    }
+    gains
+}
+
+impl Rounded<'_> {
+    // What a dish alone can gain from each pass on.
+    fn table_of(&self, dish: usize, gains: &[u64]) -> [u64; ENTRIES]
+        requires there { dish < length self.now.turns.now }
+        requires a_gain_each { length gains.now ≡ length self.now.passes.now }
+        requires sum_fits { sum gains.now < 2 ^ 64 }
+        ensures { let r = self.now in RightFrom 0 (station_of_dish r.turns.now dish) dish r.passes.now gains.now result }
+    {
+        let alone = OneDish {
+            station: Station {
+                dishes: self.turns.len() as u8,
+                turn: self.turns[dish],
+            },
+            dish: dish as u8,
+            passes: self.passes,
+        };
+        let mut table = [0; ENTRIES];
+        alone.fill_table(gains, &mut table[..self.passes.len() + 1]);
+        table
+    }
+}
