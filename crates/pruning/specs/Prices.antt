@@ -1,5 +1,5 @@
 -- Prices of passes, and what they bound. Assumes nothing: these are definitions.
-use Rattle.std.specs.Prelude.{◌≡◌, ℕ, suc, zero, ◌+◌, ◌-◌, ◌*◌, ◌<◌, ◌≤◌, true, List, [], map, length, drop, sum, slice_index, slice_index_or}
+use Rattle.std.specs.Prelude.{◌≡◌, ℕ, suc, zero, ◌+◌, ◌-◌, ◌*◌, ◌^◌, ◌<◌, ◌≤◌, true, List, [], map, length, drop, sum, slice_index, slice_index_or}
 use Rattle.std.specs.List.{range_with_len}
 use Rattle.passes.specs.declared.model.Pass.{Pass}
 use Rattle.passes.specs.declared.model.Station.{Station}
@@ -16,6 +16,10 @@ station_of_dish turns d = record { dishes = length turns; turn = slice_index tur
 abbrev pub NoneAbove : ℕ → List Pass → (prices : List ℕ) → Type 0
 NoneAbove n ps prices = (i : ℕ) → i < length ps → slice_index prices i ≤ n * (nth ps i).worth
 
+-- no number is above what prices can be
+abbrev pub Moderate : List ℕ → Type 0
+Moderate xs = (i : ℕ) → i < length xs → slice_index xs i < 2 ^ 42
+
 -- a price for each pass, and none above what it is worth
 pub record Fair (n : ℕ) (ps : List Pass) (prices : List ℕ) : Type 0 where
   pub one_each : length prices ≡ length ps
@@ -29,9 +33,13 @@ less_prices n ps prices = map (λ i. n * (nth ps i).worth - slice_index prices i
 abbrev pub entry : (tables : List (List ℕ)) → (d k : ℕ) → ℕ
 entry tables d k = slice_index (slice_index_or tables d []) k
 
--- each dish has a table of what it alone can gain at most from each pass on, once prices are paid
+-- each dish has a table of what it alone can gain at most from each pass on
+abbrev pub Tables : (turns : List ℕ) → List Pass → (gains : List ℕ) → (tables : List (List ℕ)) → Type 0
+Tables turns ps gains tables = (d : ℕ) → d < length turns → RightFrom 0 (station_of_dish turns d) d ps gains (slice_index_or tables d [])
+
+-- and this once prices are paid
 abbrev pub TablesAt : ℕ → (turns : List ℕ) → List Pass → (prices : List ℕ) → (tables : List (List ℕ)) → Type 0
-TablesAt n turns ps prices tables = (d : ℕ) → d < length turns → RightFrom 0 (station_of_dish turns d) d ps (less_prices n ps prices) (slice_index_or tables d [])
+TablesAt n turns ps prices tables = Tables turns ps (less_prices n ps prices) tables
 
 -- a number of each of the first k dishes, together
 unfoldable pub together : ℕ → (ℕ → ℕ) → ℕ

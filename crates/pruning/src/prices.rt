@@ -6,7 +6,7 @@ ghost use Rattle.capacity.specs.Order.{InTime};
 ghost use Rattle.pruning.specs.declared.rounding.TheConstants.{MOST_DISHES, MOST_PASSES};
 ghost use Rattle.pruning.specs.declared.prices.TheConstants.{SCALE};
 ghost use Rattle.pruning.specs.Rounding.{Small};
-ghost use Rattle.pruning.specs.Prices.{station_of_dish, NoneAbove, less_prices, LeftFalls, TablesFall, FallsPay};
+ghost use Rattle.pruning.specs.Prices.{station_of_dish, NoneAbove, Moderate, Tables, less_prices, LeftFalls, TablesFall, FallsPay};
 
 use crate::rounding::{MOST_DISHES, MOST_PASSES, Rounded};
 use capacity::OneDish;
@@ -26,6 +26,7 @@ pub struct Priced<'a> {
     left: [u64; ENTRIES],
     // What each dish alone can gain from each pass on, once prices are paid.
     tables: [[u64; ENTRIES]; MOST_DISHES],
+    ghost small: { Small night.passes.now },
     ghost left_falls: { LeftFalls night.passes.now left },
     ghost tables_fall: { TablesFall night.turns.now night.passes.now tables },
     ghost falls_pay: { FallsPay SCALE night.turns.now night.passes.now left tables },
@@ -33,7 +34,8 @@ pub struct Priced<'a> {
 
 // What a pass is worth, in the parts that prices are counted in.
 pub fn full_price(pass: &Pass) -> u64
-    ensures { result ≡ SCALE * pass.now.worth }
+    ensures scaled { result ≡ SCALE * pass.now.worth }
+    ensures moderate { result < 2 ^ 42 }
 {
     SCALE * pass.worth as u64
 }
@@ -42,7 +44,8 @@ pub fn full_price(pass: &Pass) -> u64
 // Kept: by index, as the rooms are arrays, of which the front is used.
 fn fair_prices(passes: &[Pass], prices: &[u64; MOST_PASSES]) -> [u64; MOST_PASSES]
     requires few_passes { length passes.now ≤ MOST_PASSES }
-    ensures { NoneAbove SCALE passes.now result }
+    ensures small { Small passes.now }
+    ensures none_above { NoneAbove SCALE passes.now result }
 {
     let mut fair = [0; MOST_PASSES];
     for (i, pass) in passes.iter().enumerate() {
@@ -55,7 +58,7 @@ fn fair_prices(passes: &[Pass], prices: &[u64; MOST_PASSES]) -> [u64; MOST_PASSE
 // Kept: by index, since one entry is written and the one behind it is read.
 fn add_up(prices: &[u64]) -> [u64; ENTRIES]
     requires few_prices { length prices.now ≤ MOST_PASSES }
-    requires small { (i : ℕ) → i < length prices.now → slice_index prices.now i < 2 ^ 42 }
+    requires moderate { Moderate prices.now }
     ensures { (k : ℕ) → k ≤ length prices.now → slice_index result k ≡ sum (drop k prices.now) }
 {
     let mut left = [0; ENTRIES];
@@ -99,5 +102,36 @@ impl Rounded<'_> {
         let mut table = [0; ENTRIES];
         alone.fill_table(gains, &mut table[..self.passes.len() + 1]);
         table
+    }
+
+    // The same of every dish.
+    fn tables_of(&self, gains: &[u64]) -> [[u64; ENTRIES]; MOST_DISHES]
+        requires a_gain_each { length gains.now ≡ length self.now.passes.now }
+        requires sum_fits { sum gains.now < 2 ^ 64 }
+        ensures { let r = self.now in Tables r.turns.now r.passes.now gains.now result }
+    {
+        let mut tables = [[0; ENTRIES]; MOST_DISHES];
+        for dish in 0..self.turns.len() {
+            tables[dish] = self.table_of(dish, gains);
+        }
+        tables
+    }
+}
+
+impl<'a> Priced<'a> {
+    // The night at these prices; one that is above what its pass is worth counts for no more than that.
+    pub fn new(night: Rounded<'a>, prices: &[u64; MOST_PASSES]) -> Priced<'a>
+        ensures same_turns { result.night.turns.now ≡ night.entry.turns.now }
+        ensures same_passes { result.night.passes.now ≡ night.entry.passes.now }
+    {
+        let count = night.passes.len();
+        let fair = fair_prices(night.passes, prices);
+        let fair = &fair[..count];
+        let gains = less_prices(night.passes, fair);
+        Priced {
+            night,
+            left: add_up(fair),
+            tables: night.tables_of(&gains[..count]),
+        }
     }
 }

@@ -16,5 +16,5 @@ loop-i-preserved c =
     let room : j < length l.left = omega (arith, l.invariant.0) in (
       length-set l.left j _ ∙ l.invariant.0,
       adds_up_more prices l.left j _ within room refl (rw next at l.invariant.1),
-      rw (get_or-set_same l.left j _ 0 room, ← next) (omega (arith, c.requires.small j within, l.invariant.2)),
+      rw (get_or-set_same l.left j _ 0 room, ← next) (omega (arith, c.requires.moderate j within, l.invariant.2)),
     )
