@@ -5,16 +5,17 @@ use Rattle.std.specs.List.{position_or_len}
 use Rattle.std.proofs.lemmas.Bool.{cases_lt}
 use Rattle.std.proofs.lemmas.Bool.Decides.{nat_tests}
 use Rattle.std.proofs.lemmas.List.FromFn.{get_or-map-range_with_len, length-map-range_with_len}
-use Rattle.std.proofs.lemmas.List.Sums.{sum_by-drop_more, fails_before_first, passes_at_first, prefix_len-le-length, sum_by-le}
+use Rattle.std.proofs.lemmas.List.Sums.{sum_by-drop_more, fails_before_first, passes_at_first, prefix_len-le-length, sum_by-le, sum_by-take-drop}
 use Rattle.std.proofs.lemmas.List.Elements.{All-from_get_or}
 use Rattle.passes.specs.declared.model.Pass.{Pass}
 use Rattle.passes.specs.declared.model.Station.{Station}
 use Rattle.passes.specs.Rule.{no_pass, nth}
 use Rattle.capacity.specs.Alone.{GainsMost, RightFrom}
 use Rattle.capacity.specs.Order.{InTime, FirstFrom}
+use Rattle.capacity.proofs.Chains.{gain_le_sum}
 use Rattle.capacity.proofs.Tables.{one_most, entry_falls, entry_able}
 use Rattle.pruning.specs.declared.rounding.TheConstants.{MOST_DISHES, MOST_PASSES}
-use Rattle.pruning.specs.Prices.{station_of_dish, Moderate, Fair, less_prices, entry, TablesAt, LeftFalls, TablesFall, FallsPay}
+use Rattle.pruning.specs.Prices.{station_of_dish, Moderate, Fair, less_prices, entry, TablesAt, LeftFalls, TablesFall, FallsPay, LeftLow, TablesLow}
 use Rattle.pruning.specs.Rounding.{suits, next_pass, free_after, Small}
 use Rattle.pruning.specs.Suiting.{next_within, next_suits}
 use Rattle.pruning.specs.Statements.{PricesBound}
@@ -83,13 +84,25 @@ module _ (ps : List Pass) (small : Small ps) where
   pub fair_moderate : (prices : List ℕ) → Fair 1024 ps prices → Moderate prices
   fair_moderate prices fair i l = omega (arith, fair.one_each, fair.at_most i (omega (arith, fair.one_each)), small i (omega (arith, fair.one_each)))
 
-  pub gains_fit : (prices : List ℕ) → length ps ≤ MOST_PASSES → sum (less_prices 1024 ps prices) < 2 ^ 64
+  pub gains_fit : (prices : List ℕ) → length ps ≤ MOST_PASSES → sum (less_prices 1024 ps prices) < 2 ^ 50
   gains_fit prices few =
       let long = one_gain_each ps 1024 prices in
       let each = All-from_get_or (λ g. g ≤ 2 ^ 42) (less_prices 1024 ps prices) 0 (λ i l.
           let within : i < length ps = omega (arith, long) in
           omega (arith, gain_at ps 1024 prices i within, small i within)) in
       omega (arith, sum_by-le (λ x. x) (2 ^ 42) (less_prices 1024 ps prices) each, long)
+
+  -- so no entry is too large
+  pub tables_low : (turns : List ℕ) (prices : List ℕ) (tables : List (List ℕ)) → length ps ≤ MOST_PASSES → TablesAt 1024 turns ps prices tables → TablesLow turns ps tables
+  tables_low turns prices tables few right d k l h =
+      let gains = less_prices 1024 ps prices in
+      let most = right d l k (omega arith) h in
+      omega (arith, most.2, gain_le_sum d (drop k gains) most.0, sum_by-take-drop (λ x. x) gains k, gains_fit prices few)
+
+  pub left_low : (prices left : List ℕ) → length ps ≤ MOST_PASSES → Fair 1024 ps prices → ((k : ℕ) → k ≤ length prices → slice_index left k ≡ sum (drop k prices)) → LeftLow ps left
+  left_low prices left few fair sums k h =
+      let each = All-from_get_or (λ g. g ≤ 2 ^ 42) prices 0 (λ i l. omega (arith, fair_moderate prices fair i l)) in
+      omega (arith, sums k (omega (arith, fair.one_each)), sum_by-take-drop (λ x. x) prices k, sum_by-le (λ x. x) (2 ^ 42) prices each, fair.one_each)
 
 -- what a night at prices holds, from how it was made
 module _ (turns : List ℕ) (ps : List Pass) (n : ℕ) (prices : List ℕ) (time : InTime ps) (fair : Fair n ps prices) (left : List ℕ) (sums : (k : ℕ) → k ≤ length prices → slice_index left k ≡ sum (drop k prices)) (tables : List (List ℕ)) (right : TablesAt n turns ps prices tables) where

@@ -1,5 +1,5 @@
 -- Numbers of several dishes together. Assumes nothing.
-use Rattle.std.proofs.Common.{◌≡◌, ℕ, zero, suc, ◌+◌, ◌<◌, ◌≤◌, ⊎_elim, arith}
+use Rattle.std.proofs.Common.{◌≡◌, ℕ, zero, suc, ◌+◌, ◌<◌, ◌≤◌, refl, ⊎_elim, arith}
 use Rattle.std.proofs.lemmas.Bool.{cases_eq}
 use Rattle.pruning.specs.Prices.{together}
 
@@ -19,3 +19,12 @@ module _ (f g : ℕ → ℕ) where
       (λ same. let rest = together_le k (λ d m. h d (omega arith)) in let here = rw same at less in omega (arith, rest, here))
       (λ other. let rest = together_less k j x y (omega arith) (λ d m. h d (omega arith)) less in omega (arith, rest, h k (omega arith)))
       (cases_eq j k)
+
+pub together_none : (f : ℕ → ℕ) → together 0 f ≡ 0
+unfolding together
+together_none f = refl
+
+-- one dish more
+pub together_more : (k : ℕ) (f : ℕ → ℕ) → together (k + 1) f ≡ together k f + f k
+unfolding together
+together_more k f = let on : k + 1 ≡ suc k = omega arith in rw on refl

@@ -63,3 +63,10 @@ abbrev pub FallsPay : ℕ → (turns : List ℕ) → List Pass → (left : List 
 FallsPay n turns ps left tables =
     (d k : ℕ) → d < length turns → k < length ps → suits turns d 0 (nth ps k) ≡ true →
     n * (nth ps k).worth + slice_index left (k + 1) + entry tables d (next_pass turns ps d (k + 1) (free_after turns (nth ps k) d)) ≤ slice_index left k + entry tables d k
+
+-- no entry is too large for some few to be added up
+abbrev pub LeftLow : List Pass → (left : List ℕ) → Type 0
+LeftLow ps left = (k : ℕ) → k ≤ length ps → slice_index left k < 2 ^ 50
+
+abbrev pub TablesLow : (turns : List ℕ) → List Pass → (tables : List (List ℕ)) → Type 0
+TablesLow turns ps tables = (d k : ℕ) → d < length turns → k ≤ length ps → entry tables d k < 2 ^ 50

@@ -5,11 +5,13 @@ ghost use Rattle.capacity.specs.Alone.{RightFrom};
 ghost use Rattle.capacity.specs.Order.{InTime};
 ghost use Rattle.pruning.specs.declared.rounding.TheConstants.{MOST_DISHES, MOST_PASSES};
 ghost use Rattle.pruning.specs.declared.prices.TheConstants.{SCALE};
-ghost use Rattle.pruning.specs.Rounding.{Small};
-ghost use Rattle.pruning.specs.Prices.{station_of_dish, NoneAbove, Moderate, Tables, less_prices, LeftFalls, TablesFall, FallsPay};
+ghost use Rattle.pruning.specs.Rounding.{Small, rounded_night};
+ghost use Rattle.pruning.specs.Lawful.{rounded_moves, rounded_sums};
+ghost use Rattle.pruning.specs.Prices.{station_of_dish, NoneAbove, Moderate, Tables, less_prices, LeftFalls, TablesFall, FallsPay, LeftLow, TablesLow};
 
-use crate::rounding::{MOST_DISHES, MOST_PASSES, Rounded};
+use crate::rounding::{MOST_DISHES, MOST_PASSES, NextPasses, Rounded};
 use capacity::OneDish;
+use engine::{Decisions, Gains};
 use passes::{Pass, Station};
 
 // Prices are whole numbers of so many parts of what passes are worth.
@@ -27,6 +29,8 @@ pub struct Priced<'a> {
     // What each dish alone can gain from each pass on, once prices are paid.
     tables: [[u64; ENTRIES]; MOST_DISHES],
     ghost small: { Small night.passes.now },
+    ghost left_low: { LeftLow night.passes.now left },
+    ghost tables_low: { TablesLow night.turns.now night.passes.now tables },
     ghost left_falls: { LeftFalls night.passes.now left },
     ghost tables_fall: { TablesFall night.turns.now night.passes.now tables },
     ghost falls_pay: { FallsPay SCALE night.turns.now night.passes.now left tables },
@@ -133,5 +137,56 @@ impl<'a> Priced<'a> {
             left: add_up(fair),
             tables: night.tables_of(&gains[..count]),
         }
+    }
+}
+
+// Kept: here and below, stage, choice and state come one by one, as in `Decisions`.
+impl Decisions for Priced<'_> {
+    type State = NextPasses;
+
+    ghost moves = { λ p. (rounded_night p.night.turns.now p.night.passes.now).moves };
+
+    ghost move_laws = { λ p. rounded_moves p.night.turns.now p.night.passes.now };
+
+    fn stages(&self) -> usize {
+        self.night.passes.len()
+    }
+
+    fn choices(&self, _stage: usize) -> u8 {
+        self.night.turns.len() as u8 + 1
+    }
+
+    fn start(&self) -> NextPasses {
+        self.night.start()
+    }
+
+    fn step(&self, stage: usize, choice: u8, state: NextPasses) -> Option<NextPasses> {
+        self.night.step(stage, choice, state)
+    }
+}
+
+impl Gains for Priced<'_> {
+    ghost gain = { λ p. (rounded_night p.night.turns.now p.night.passes.now).gain };
+
+    ghost most = { λ p. (rounded_night p.night.turns.now p.night.passes.now).most };
+
+    ghost sum_laws = { λ p. rounded_sums p.night.turns.now p.night.passes.now p.small p.night.few_passes };
+
+    fn gain(&self, stage: usize, choice: u8, _state: NextPasses) -> u64 {
+        // Kept: which dish follows the pass isn't asked here, so `checked_sub` would be no plainer than a test for 0.
+        if choice == 0 {
+            0
+        } else {
+            self.night.passes[stage].worth as u64
+        }
+    }
+
+    // The prices of the passes that are left, and what each dish alone can gain from its next pass on, once prices are paid.
+    fn bound(&self, stage: usize, state: NextPasses) -> u64 {
+        let mut bound = self.left[stage];
+        for dish in 0..self.night.turns.len() {
+            bound += self.tables[dish][state.next_of(dish)];
+        }
+        bound / SCALE
     }
 }

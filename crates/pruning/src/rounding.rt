@@ -1,5 +1,5 @@
 // States of a night, rounded up: of each dish, in place of the second from which it is free, the next pass that it may still follow.
-ghost use Rattle.std.specs.Prelude.{◌≡◌, ◌+◌, ◌<◌, ◌≤◌, ◌&&◌, length, nat_lt, nat_le};
+ghost use Rattle.std.specs.Prelude.{◌≡◌, ◌+◌, ◌<◌, ◌≤◌, ◌&&◌, length, nat_lt, nat_le, slice_index};
 ghost use Rattle.passes.specs.Follow.{may};
 ghost use Rattle.passes.specs.Rule.{nth};
 ghost use Rattle.capacity.specs.Order.{InTime, InTime-prop};
@@ -18,6 +18,16 @@ pub const MOST_PASSES: usize = 128;
 #[derive(Clone, Copy)]
 pub struct NextPasses {
     next: [u8; MOST_DISHES],
+}
+
+impl NextPasses {
+    // The next pass of a dish.
+    pub fn next_of(self, dish: usize) -> usize
+        requires there { dish < MOST_DISHES }
+        ensures { result ≡ slice_index self.next dish }
+    {
+        self.next[dish] as usize
+    }
 }
 
 // Passes in order of time, and how long each dish takes to turn.
@@ -56,7 +66,7 @@ impl Rounded<'_> {
     }
 
     // Before all passes, the first that each dish may follow.
-    fn start(&self) -> NextPasses
+    pub fn start(&self) -> NextPasses
         ensures { let r = self.now in result ≡ (rounded_night r.turns.now r.passes.now).moves.start }
     {
         let mut next = [0; MOST_DISHES];
@@ -67,7 +77,7 @@ impl Rounded<'_> {
     }
 
     // The state to which a decision on a pass leads, unless it isn't allowed.
-    fn step(&self, stage: usize, choice: u8, state: NextPasses) -> Option<NextPasses>
+    pub fn step(&self, stage: usize, choice: u8, state: NextPasses) -> Option<NextPasses>
         requires within { stage < length self.now.passes.now }
         ensures { let r = self.now in result ≡ go_on r.turns.now r.passes.now stage choice state }
     {

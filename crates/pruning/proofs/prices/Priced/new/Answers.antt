@@ -3,7 +3,7 @@ use Rattle.std.proofs.lemmas.List.{get_or-take, length-take-le}
 use Rattle.passes.specs.declared.model.Pass.{Pass}
 use Rattle.pruning.specs.Prices.{Fair, NoneAbove}
 use Rattle.pruning.specs.Rounding.{Small}
-use Rattle.pruning.proofs.Tables.{fair_moderate, gains_fit, left_falls, tables_fall, falls_pay}
+use Rattle.pruning.proofs.Tables.{gains_fit, left_low, tables_low, left_falls, tables_fall, falls_pay}
 use Rattle.pruning.proofs.prices.Priced.new.Goals as goal
 
 -- the front of an array of prices
@@ -16,17 +16,26 @@ fair_front ps prices long few none = record {
 pub tables_of-requires-clause-sum_fits : goal.tables_of-requires-clause-sum_fits
 tables_of-requires-clause-sum_fits c =
     let n = c.args.night in
-    rw c.less_prices-gains.ensures (gains_fit n.passes.now c.fair_prices-fair.ensures.small (take (length n.passes.now) c.fair_prices-fair.result) n.few_passes)
+    rw c.less_prices-gains.ensures (omega (arith, gains_fit n.passes.now c.fair_prices-fair.ensures.small (take (length n.passes.now) c.fair_prices-fair.result) n.few_passes))
 
 pub invariant_of-result : goal.invariant_of-result
 invariant_of-result c =
-    let n = c.args.night in
-    let ps = n.passes.now in
-    let fair = fair_front ps c.fair_prices-fair.result (search rules) n.few_passes c.fair_prices-fair.ensures.none_above in
+    let turns = c.args.night.turns.now in
+    let ps = c.args.night.passes.now in
+    let few = c.args.night.few_passes in
+    let time = c.args.night.in_time in
+    let small = c.fair_prices-fair.ensures.small in
+    let prices = take (length ps) c.fair_prices-fair.result in
+    let fair = fair_front ps c.fair_prices-fair.result (search rules) few c.fair_prices-fair.ensures.none_above in
+    let left = c.add_up.result in
+    let sums = c.add_up.ensures in
+    let tables = c.tables_of.result in
     let right = rw c.less_prices-gains.ensures at c.tables_of.ensures in
     record {
-      small = c.fair_prices-fair.ensures.small;
-      left_falls = left_falls n.turns.now ps 1024 (take (length ps) c.fair_prices-fair.result) n.in_time fair c.add_up.result c.add_up.ensures c.tables_of.result right;
-      tables_fall = tables_fall n.turns.now ps 1024 (take (length ps) c.fair_prices-fair.result) n.in_time fair c.add_up.result c.add_up.ensures c.tables_of.result right;
-      falls_pay = falls_pay n.turns.now ps 1024 (take (length ps) c.fair_prices-fair.result) n.in_time fair c.add_up.result c.add_up.ensures c.tables_of.result right;
+      small = small;
+      left_low = left_low ps small prices left few fair sums;
+      tables_low = tables_low ps small turns prices tables few right;
+      left_falls = left_falls turns ps 1024 prices time fair left sums tables right;
+      tables_fall = tables_fall turns ps 1024 prices time fair left sums tables right;
+      falls_pay = falls_pay turns ps 1024 prices time fair left sums tables right;
     }
