@@ -79,30 +79,30 @@ module _ (turns : List ℕ) (ps : List Pass) (n : ℕ) (prices : List ℕ) (time
       left_at : (k : ℕ) → k < length ps → sum (drop k prices) ≡ slice_index prices k + sum (drop (k + 1) prices)
       left_at k l = sum_by-drop_more (λ x. x) prices k 0 (omega (arith, fair.one_each))
 
+-- some few numbers that are not above what prices can be, together
+pub moderate_fits : (xs : List ℕ) → length xs ≤ MOST_PASSES → Moderate xs → sum xs < 2 ^ 50
+moderate_fits xs few each = omega (arith, sum_by-le (λ x. x) (2 ^ 42) xs (All-from_get_or (λ x. x ≤ 2 ^ 42) xs 0 (λ i l. omega (arith, each i l))))
+
 -- prices that are not above worths are moderate, and so is all that is gained together
 module _ (ps : List Pass) (small : Small ps) where
   pub fair_moderate : (prices : List ℕ) → Fair 1024 ps prices → Moderate prices
   fair_moderate prices fair i l = omega (arith, fair.one_each, fair.at_most i (omega (arith, fair.one_each)), small i (omega (arith, fair.one_each)))
 
-  pub gains_fit : (prices : List ℕ) → length ps ≤ MOST_PASSES → sum (less_prices 1024 ps prices) < 2 ^ 50
-  gains_fit prices few =
-      let long = one_gain_each ps 1024 prices in
-      let each = All-from_get_or (λ g. g ≤ 2 ^ 42) (less_prices 1024 ps prices) 0 (λ i l.
-          let within : i < length ps = omega (arith, long) in
-          omega (arith, gain_at ps 1024 prices i within, small i within)) in
-      omega (arith, sum_by-le (λ x. x) (2 ^ 42) (less_prices 1024 ps prices) each, long)
+  pub gains_moderate : (prices : List ℕ) → Moderate (less_prices 1024 ps prices)
+  gains_moderate prices i l =
+      let within : i < length ps = omega (arith, one_gain_each ps 1024 prices) in
+      omega (arith, gain_at ps 1024 prices i within, small i within)
 
   -- so no entry is too large
   pub tables_low : (turns : List ℕ) (prices : List ℕ) (tables : List (List ℕ)) → length ps ≤ MOST_PASSES → TablesAt 1024 turns ps prices tables → TablesLow turns ps tables
   tables_low turns prices tables few right d k l h =
       let gains = less_prices 1024 ps prices in
       let most = right d l k (omega arith) h in
-      omega (arith, most.2, gain_le_sum d (drop k gains) most.0, sum_by-take-drop (λ x. x) gains k, gains_fit prices few)
+      omega (arith, most.2, gain_le_sum d (drop k gains) most.0, sum_by-take-drop (λ x. x) gains k, moderate_fits gains (omega (arith, one_gain_each ps 1024 prices)) (gains_moderate prices))
 
   pub left_low : (prices left : List ℕ) → length ps ≤ MOST_PASSES → Fair 1024 ps prices → ((k : ℕ) → k ≤ length prices → slice_index left k ≡ sum (drop k prices)) → LeftLow ps left
   left_low prices left few fair sums k h =
-      let each = All-from_get_or (λ g. g ≤ 2 ^ 42) prices 0 (λ i l. omega (arith, fair_moderate prices fair i l)) in
-      omega (arith, sums k (omega (arith, fair.one_each)), sum_by-take-drop (λ x. x) prices k, sum_by-le (λ x. x) (2 ^ 42) prices each, fair.one_each)
+      omega (arith, sums k (omega (arith, fair.one_each)), sum_by-take-drop (λ x. x) prices k, moderate_fits prices (omega (arith, fair.one_each)) (fair_moderate prices fair))
 
 -- what a night at prices holds, from how it was made
 module _ (turns : List ℕ) (ps : List Pass) (n : ℕ) (prices : List ℕ) (time : InTime ps) (fair : Fair n ps prices) (left : List ℕ) (sums : (k : ℕ) → k ≤ length prices → slice_index left k ≡ sum (drop k prices)) (tables : List (List ℕ)) (right : TablesAt n turns ps prices tables) where

@@ -1,10 +1,12 @@
 // What the search for a night's best plan may leave out.
 #![tactic(auto)]
 
+mod auction;
 mod laws;
 mod prices;
 mod rounding;
 
+pub use auction::Auction;
 pub use laws::prices_bound_stands;
 pub use prices::{Priced, SCALE};
 pub use rounding::{MOST_DISHES, MOST_PASSES, NextPasses, Rounded};

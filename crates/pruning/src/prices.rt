@@ -74,11 +74,12 @@ fn add_up(prices: &[u64]) -> [u64; ENTRIES]
 
 // What is gained by following each pass, once its price is paid.
 // Kept: by index, as in `fair_prices`.
-fn less_prices(passes: &[Pass], prices: &[u64]) -> [u64; MOST_PASSES]
+pub fn less_prices(passes: &[Pass], prices: &[u64]) -> [u64; MOST_PASSES]
     requires few_passes { length passes.now ≤ MOST_PASSES }
     requires one_each { length prices.now ≡ length passes.now }
     requires none_above { NoneAbove SCALE passes.now prices.now }
-    ensures { take (length passes.now) result ≡ less_prices SCALE passes.now prices.now }
+    ensures less { take (length passes.now) result ≡ less_prices SCALE passes.now prices.now }
+    ensures moderate { Moderate (take (length passes.now) result) }
 {
     let mut gains = [0; MOST_PASSES];
     for (i, pass) in passes.iter().enumerate() {
@@ -88,23 +89,33 @@ fn less_prices(passes: &[Pass], prices: &[u64]) -> [u64; MOST_PASSES]
 }
 
 impl Rounded<'_> {
-    // What a dish alone can gain from each pass on.
-    fn table_of(&self, dish: usize, gains: &[u64]) -> [u64; ENTRIES]
+    // One dish alone.
+    pub fn alone(&self, dish: usize) -> OneDish<'_>
         requires there { dish < length self.now.turns.now }
-        requires a_gain_each { length gains.now ≡ length self.now.passes.now }
-        requires sum_fits { sum gains.now < 2 ^ 64 }
-        ensures { let r = self.now in RightFrom 0 (station_of_dish r.turns.now dish) dish r.passes.now gains.now result }
+        ensures station { result.station ≡ station_of_dish self.now.turns.now dish }
+        ensures same_dish { result.dish ≡ dish }
+        ensures same_passes { result.passes.now ≡ self.now.passes.now }
     {
-        let alone = OneDish {
+        OneDish {
             station: Station {
                 dishes: self.turns.len() as u8,
                 turn: self.turns[dish],
             },
             dish: dish as u8,
             passes: self.passes,
-        };
+        }
+    }
+
+    // What a dish alone can gain from each pass on.
+    pub fn table_of(&self, dish: usize, gains: &[u64]) -> [u64; ENTRIES]
+        requires there { dish < length self.now.turns.now }
+        requires a_gain_each { length gains.now ≡ length self.now.passes.now }
+        requires sum_fits { sum gains.now < 2 ^ 64 }
+        ensures { let r = self.now in RightFrom 0 (station_of_dish r.turns.now dish) dish r.passes.now gains.now result }
+    {
         let mut table = [0; ENTRIES];
-        alone.fill_table(gains, &mut table[..self.passes.len() + 1]);
+        self.alone(dish)
+            .fill_table(gains, &mut table[..self.passes.len() + 1]);
         table
     }
 

@@ -3,7 +3,7 @@ use Rattle.std.proofs.lemmas.List.{get_or-take, length-take-le}
 use Rattle.passes.specs.declared.model.Pass.{Pass}
 use Rattle.pruning.specs.Prices.{Fair, NoneAbove}
 use Rattle.pruning.specs.Rounding.{Small}
-use Rattle.pruning.proofs.Tables.{gains_fit, left_low, tables_low, left_falls, tables_fall, falls_pay}
+use Rattle.pruning.proofs.Tables.{moderate_fits, left_low, tables_low, left_falls, tables_fall, falls_pay}
 use Rattle.pruning.proofs.prices.Priced.new.Goals as goal
 
 -- the front of an array of prices
@@ -15,8 +15,9 @@ fair_front ps prices long few none = record {
 
 pub tables_of-requires-clause-sum_fits : goal.tables_of-requires-clause-sum_fits
 tables_of-requires-clause-sum_fits c =
-    let n = c.args.night in
-    rw c.less_prices-gains.ensures (omega (arith, gains_fit n.passes.now c.fair_prices-fair.ensures.small (take (length n.passes.now) c.fair_prices-fair.result) n.few_passes))
+    let gains = take (length c.args.night.passes.now) c.less_prices-gains.result in
+    let long : length gains ≡ length c.args.night.passes.now = search rules in
+    omega (arith, moderate_fits gains (omega (arith, long, c.args.night.few_passes)) c.less_prices-gains.ensures.moderate)
 
 pub invariant_of-result : goal.invariant_of-result
 invariant_of-result c =
@@ -30,7 +31,7 @@ invariant_of-result c =
     let left = c.add_up.result in
     let sums = c.add_up.ensures in
     let tables = c.tables_of.result in
-    let right = rw c.less_prices-gains.ensures at c.tables_of.ensures in
+    let right = rw c.less_prices-gains.ensures.less at c.tables_of.ensures in
     record {
       small = small;
       left_low = left_low ps small prices left few fair sums;

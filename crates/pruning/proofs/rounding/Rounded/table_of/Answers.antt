@@ -5,4 +5,6 @@ use Rattle.pruning.proofs.rounding.Rounded.table_of.Goals as goal
 pub returns : goal.returns
 returns c k low high =
     let front : k < length c.fill_table.new.table = search rules in
-    rw (get_or-append c.fill_table.new.table _ 0 k front) (c.fill_table.ensures k low high)
+    let one = c.alone.ensures in
+    let right = rw (one.station, one.same_dish, one.same_passes) at c.fill_table.ensures in
+    rw (get_or-append c.fill_table.new.table _ 0 k front) (right k low high)

@@ -1,0 +1,8 @@
+use Rattle.std.proofs.Common.{◌≡◌, ℕ, ◌*◌, ◌<◌, ◌≤◌, length, get_or}
+use Rattle.passes.specs.Rule.{nth}
+use Rattle.pruning.specs.Prices.{NoneAbove}
+use Rattle.pruning.proofs.auction.Auction.moved.Given as goal
+
+-- no price is above what its pass is worth, moved or not
+abbrev pub invariant-loop-i : goal.invariant-loop-i
+invariant-loop-i l = (length l.moved ≡ 128) × NoneAbove 1024 l.self.night.passes.now l.moved
