@@ -24,9 +24,6 @@ module _ {S : Type 0} (m : Model S) where
   still_unbeaten {best} {best₁} better i s none cs e w =
       ⊎_elim (λ yes₁. absurd (both_ways _ (none cs e w) (better.no_worse e yes₁))) (λ no₁. no₁) (cases_Bool (beats m e best₁))
 
-  pub improved_none : (best : Option S) (room : List ℕ) → Holds m best room → Improved m best room best room
-  improved_none best room holds = record { holds = holds; no_worse = λ e h. h; untouched = λ _. refl }
-
   pub improved_more : OrderLaws m.ahead → (best best₁ best₂ : Option S) (room room₁ room₂ : List ℕ) → Improved m best room best₁ room₁ → Improved m best₁ room₁ best₂ room₂ → Improved m best room best₂ room₂
   improved_more order best None best₂ room room₁ room₂ first second = record {
     holds = second.holds;
@@ -80,19 +77,7 @@ module _ {S : Type 0} (m : Model S) where
       let back = choice_twice first next.choice in
       tried turn (choice_offered first next.choice (m.moves.choices i) offered is_choice) next.next (rw back next.step) next.rest e next.way
 
-  -- what stands in the table stays right when the best so far gets better
-  pub still_known : {best best₁ : Option S} {room room₁ : List ℕ} → Improved m best room best₁ room₁ → (table : List (Option (Seen S))) → Known m table best → Known m table best₁
-  still_known {best} {best₁} better table known = All-weaker (λ o. IfSome o (Passed m best)) (λ o. IfSome o (Passed m best₁)) still_passed table known
-    where
-      still_passed : (o : Option (Seen S)) → IfSome o (Passed m best) → IfSome o (Passed m best₁)
-      still_passed None h = tt
-      still_passed (Some x) h = record { within = h.within; fine = h.fine; unbeaten = still_unbeaten better x.stage x.state h.unbeaten }
-
-  -- nothing does in an empty one
-  pub known_empty : (table : List (Option (Seen S))) (best : Option S) → All (λ o. o ≡ None) table → Known m table best
-  known_empty table best empty = All-weaker (λ o. o ≡ None) (λ o. IfSome o (Passed m best)) (λ o none. rw none tt) table empty
-
-  -- one state more
+  -- one state more in the table
   pub known_more : (table table₁ : List (Option (Seen S))) (k : ℕ) (x : Seen S) (best : Option S) → table₁ ≡ set table k (Some x) → Passed m best x → Known m table best → Known m table₁ best
   known_more table table₁ k x best same passed known = rw same (All-set (λ o. IfSome o (Passed m best)) table k (Some x) passed known)
 

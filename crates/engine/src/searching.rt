@@ -87,11 +87,12 @@ impl<P: Problem> Exploring<'_, P> {
         if places == 0 {
             return false;
         }
+        // Kept: what stands there is read first, since a match on the place itself gets no proof.
         let entry = self.seen[place(self.problem.slot(stage, state), places)];
-        match entry {
-            Some(seen) => { seen.stage == stage && self.problem.covers(stage, seen.state, state) }
-            None => false,
-        }
+        let Some(seen) = entry else {
+            return false;
+        };
+        seen.stage == stage && self.problem.covers(stage, seen.state, state)
     }
 
     // Keeps the run that was made if it ends ahead of the best so far.

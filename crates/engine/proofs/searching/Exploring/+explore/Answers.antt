@@ -1,7 +1,7 @@
 use Rattle.std.proofs.Common.{◌≡◌, ◌<◌, ap, ◌∙◌, arith, rules}
 use Rattle.engine.specs.Problems.{in_order}
 use Rattle.engine.proofs.Ways.{came_more, came_front, front_kept}
-use Rattle.engine.proofs.Trying.{improved_more, tried_refused, tried_more, tried_all, still_known, known_more}
+use Rattle.engine.proofs.Trying.{improved_more, tried_refused, tried_more, tried_all, known_more}
 use Rattle.engine.proofs.searching.Exploring.+explore.Goals as goal
 use Rattle.engine.proofs.searching.Exploring.+explore.Goals.{in-Some, in_default}
 
