@@ -1,9 +1,8 @@
 -- The best so far while choices are tried. Assumes nothing.
-use Rattle.std.proofs.Common.{◌≡◌, ℕ, ◌+◌, ◌-◌, ◌<◌, ◌≤◌, true, false, List, set, IfSome, Some, None, Option, sym, refl, ap, ◌∙◌, ⊎_elim, arith, below_more}
-use Rattle.std.specs.List.{All}
-use Rattle.std.proofs.lemmas.List.Elements.{All-weaker, All-set}
+use Rattle.std.proofs.Common.{◌≡◌, ℕ, ◌+◌, ◌-◌, ◌<◌, ◌≤◌, true, false, List, set, IfSome, Some, None, Option, sym, refl, ◌∙◌, ⊎_elim, arith, below_more}
+use Rattle.std.proofs.lemmas.List.Elements.{All-set}
 use Rattle.std.proofs.lemmas.Bool.Decides.{nat_tests}
-use Rattle.std.proofs.lemmas.Bool.{both_ways, cases_Bool, cases_eq}
+use Rattle.std.proofs.lemmas.Bool.{both_ways, cases_Bool}
 use Rattle.engine.specs.Runs.{MoveLaws}
 use Rattle.engine.specs.Problems.{Model, OrderLaws, Final, Covers, Answered}
 use Rattle.engine.specs.declared.seen.Seen.{Seen}

@@ -29,6 +29,10 @@ pub record Passed {S : Type 0} (m : Model S) (best : Option S) (x : Seen S) : Ty
 abbrev pub Known : {S : Type 0} → Model S → (table : List (Option (Seen S))) → Option S → Type 0
 Known m table best = All (λ o. IfSome o (Passed m best)) table
 
+-- there is no best so far, and nothing stands in the table
+abbrev pub Fresh : {S : Type 0} → Option S → (table : List (Option (Seen S))) → Type 0
+Fresh best table = (best ≡ None) × All (λ o. o ≡ None) table
+
 -- the choice whose turn it is: the one to try first has changed places with the choice 0
 abbrev pub choice_at : (first turn : ℕ) → ℕ
 choice_at first turn = if turn == 0 then first else if turn == first then 0 else turn

@@ -183,7 +183,8 @@ pub fn gain_most<G: Gains>(
 ) -> Gained
     requires a_place_each { length made.old ≡ (G.moves problem.now.gains).stages }
     requires one_each { length room.old ≡ (G.moves problem.now.gains).stages }
-    ensures { GainAnswered (gaining (G.moves problem.now.gains) (G.gain problem.now.gains) (G.most problem.now.gains)) room.old result.most room.new }
+    ensures answered { GainAnswered (gaining (G.moves problem.now.gains) (G.gain problem.now.gains) (G.most problem.now.gains)) room.old result.most room.new }
+    ensures counted { 0 < result.visited }
 {
     let found = search(problem, made, seen, room);
     Gained {

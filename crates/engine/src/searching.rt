@@ -1,8 +1,9 @@
 // The search: depth first, through all choices of all stages.
-ghost use Rattle.std.specs.Prelude.{◌≡◌, ◌<◌, ◌≤◌, true, length, take};
+ghost use Rattle.std.specs.Prelude.{◌≡◌, ◌<◌, ◌⊎◌, true, false, length, take, None};
+ghost use Rattle.std.specs.List.{All};
 ghost use Rattle.engine.specs.Runs.{Run};
 ghost use Rattle.engine.specs.Problems.{in_order, Answered};
-ghost use Rattle.engine.specs.Searching.{Unbeaten, Holds, Came, Improved, Known, choice_at};
+ghost use Rattle.engine.specs.Searching.{Unbeaten, Holds, Came, Improved, Known, Fresh, choice_at};
 
 use crate::problem::Problem;
 use crate::seen::{Seen, forget_all, place, remember};
@@ -35,6 +36,7 @@ impl<P: Problem> Exploring<'_, P> {
         ensures unbeaten { Unbeaten (in_order (P.moves self.old.problem.now) (P.ahead self.old.problem.now)) stage state self.new.best.now }
         ensures known { Known (in_order (P.moves self.old.problem.now) (P.ahead self.old.problem.now)) self.new.seen.now self.new.best.now }
         ensures same_front { take stage made.new ≡ take stage made.old }
+        ensures counted { 0 < self.old.visited ⊎ Fresh self.old.best.now self.old.seen.now → 0 < self.new.visited }
     {
         let problem = self.problem;
         if stage == problem.stages() {
@@ -66,7 +68,8 @@ impl<P: Problem> Exploring<'_, P> {
         requires fine { (P.moves self.now.problem.now).fine stage state }
         requires holds { Holds (in_order (P.moves self.now.problem.now) (P.ahead self.now.problem.now)) self.now.best.now self.now.room.now }
         requires known { Known (in_order (P.moves self.now.problem.now) (P.ahead self.now.problem.now)) self.now.seen.now self.now.best.now }
-        ensures { result ≡ true → Unbeaten (in_order (P.moves self.now.problem.now) (P.ahead self.now.problem.now)) stage state self.now.best.now }
+        ensures sure { result ≡ true → Unbeaten (in_order (P.moves self.now.problem.now) (P.ahead self.now.problem.now)) stage state self.now.best.now }
+        ensures nothing_yet { Fresh self.now.best.now self.now.seen.now → result ≡ false }
     {
         if let Some(best) = *self.best
             && self.problem.is_hopeless(stage, state, best)
@@ -81,7 +84,8 @@ impl<P: Problem> Exploring<'_, P> {
         requires within { stage < (P.moves self.now.problem.now).stages }
         requires fine { (P.moves self.now.problem.now).fine stage state }
         requires known { Known (in_order (P.moves self.now.problem.now) (P.ahead self.now.problem.now)) self.now.seen.now self.now.best.now }
-        ensures { result ≡ true → Unbeaten (in_order (P.moves self.now.problem.now) (P.ahead self.now.problem.now)) stage state self.now.best.now }
+        ensures sure { result ≡ true → Unbeaten (in_order (P.moves self.now.problem.now) (P.ahead self.now.problem.now)) stage state self.now.best.now }
+        ensures nothing_yet { All (λ o. o ≡ None) self.now.seen.now → result ≡ false }
     {
         let places = self.seen.len();
         if places == 0 {
@@ -106,6 +110,7 @@ impl<P: Problem> Exploring<'_, P> {
         ensures unbeaten { Unbeaten (in_order (P.moves self.old.problem.now) (P.ahead self.old.problem.now)) (P.moves self.old.problem.now).stages state self.new.best.now }
         ensures same_table { self.new.seen.ghost_name ≡ self.old.seen.ghost_name }
         ensures same_seen { self.new.seen.now ≡ self.old.seen.now }
+        ensures same_count { self.new.visited ≡ self.old.visited }
     {
         if let Some(best) = *self.best
             && !self.problem.is_ahead(state, best)
@@ -147,7 +152,8 @@ pub fn search<P: Problem>(
 ) -> Searched<P::State>
     requires a_place_each { length made.old ≡ (P.moves problem.now).stages }
     requires one_each { length room.old ≡ (P.moves problem.now).stages }
-    ensures { Answered (in_order (P.moves problem.now) (P.ahead problem.now)) room.old result.best room.new }
+    ensures answered { Answered (in_order (P.moves problem.now) (P.ahead problem.now)) room.old result.best room.new }
+    ensures counted { 0 < result.visited }
 {
     forget_all(seen);
     let mut best = None;

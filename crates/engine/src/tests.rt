@@ -142,7 +142,12 @@ fn the_lowest_rising_numbers(rt: HostRuntime) {
         assert_eq!(rt; room, left);
         // nothing in the table covers anything, so it changes nothing
         assert_eq!(rt;
-            search(&problem, &mut made[..stages], &mut [None; 4], &mut room[..stages]),
+            search(
+                &problem,
+                &mut made[..stages],
+                &mut [None; 4],
+                &mut room[..stages]
+            ),
             Searched { best, visited }
         );
         assert_eq!(rt; room, left);
@@ -159,7 +164,10 @@ fn the_most_without_neighbours(rt: HostRuntime) {
         let mut room = [9; 6];
         assert_eq!(rt;
             gain_most(&problem, &mut made, &mut seen[..places], &mut room),
-            Gained { most: Some(7), visited }
+            Gained {
+                most: Some(7),
+                visited
+            }
         );
         assert_eq!(rt; room, [1, 0, 1, 0, 0, 1]);
     }

@@ -1,5 +1,4 @@
 use Rattle.std.proofs.Common.{arith}
-use Rattle.std.proofs.lemmas.Bool.{leb-true}
 use Rattle.engine.specs.Gaining.{gaining}
 use Rattle.engine.proofs.Tallies.{keeps_up_covers}
 use Rattle.engine.proofs.gains.SummedProblem.covers.Goals as goal

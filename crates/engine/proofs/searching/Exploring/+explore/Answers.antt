@@ -1,4 +1,4 @@
-use Rattle.std.proofs.Common.{◌≡◌, ◌<◌, ap, ◌∙◌, arith, rules}
+use Rattle.std.proofs.Common.{◌≡◌, ◌<◌, ap, ◌∙◌, inl, arith, rules}
 use Rattle.engine.specs.Problems.{in_order}
 use Rattle.engine.proofs.Ways.{came_more, came_front, front_kept}
 use Rattle.engine.proofs.Trying.{improved_more, tried_refused, tried_more, tried_all, known_more}
@@ -34,6 +34,7 @@ loop-turn-preserved g t c =
             improved = improved_more m (g.met.P.Problem.order_laws p) a.self.now.best.now l.self.best.now w.explore.new.self.best.now a.self.now.room.now l.self.room.now w.explore.new.self.room.now l.invariant.improved better;
             known = rw l.invariant.same_problem at told.known;
             tried = tried_more m a.stage a.state c.min-first.result l.turn w.in-Some.next (search rules) better (rw l.invariant.same_problem at told.unbeaten) l.invariant.tried;
+            counted = told.counted (inl l.invariant.counted);
             same_front = front_kept a.stage a.made.now l.made w.explore.new.made c.choice_at-choice.result told.same_front l.invariant.same_front;
           })
       | in_default w ↦ rw (w.self-is, w.made-is) (record {
@@ -45,6 +46,7 @@ loop-turn-preserved g t c =
         known = l.invariant.known;
         tried = tried_refused m a.stage a.state c.min-first.result l.turn l.self.best.now (search rules) l.invariant.tried;
         same_front = l.invariant.same_front;
+        counted = search rules;
       })
     ]
 
@@ -67,4 +69,5 @@ returns g t c =
       unbeaten = none;
       known = known_more m l.self.seen.now c.remember.new.table c.remember.ensures.0 (record { stage = a.stage; state = a.state }) l.self.best.now c.remember.ensures.1 (record { within = before; fine = fine; unbeaten = none }) l.invariant.known;
       same_front = l.invariant.same_front;
+      counted = search rules;
     }

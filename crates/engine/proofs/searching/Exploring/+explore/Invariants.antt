@@ -1,4 +1,4 @@
-use Rattle.std.proofs.Common.{◌≡◌, ◌-◌, take}
+use Rattle.std.proofs.Common.{◌≡◌, ◌-◌, ◌<◌, take}
 use Rattle.engine.specs.Problems.{in_order}
 use Rattle.engine.specs.Searching.{Improved, Known}
 use Rattle.engine.proofs.Trying.{Tried}
@@ -19,5 +19,6 @@ invariant-loop-turn g l =
       improved : Improved m p.best.now p.room.now l.self.best.now l.self.room.now;
       known : Known m l.self.seen.now l.self.best.now;
       tried : Tried m l.stage l.state l.first l.turn l.self.best.now;
+      counted : 0 < l.self.visited;
       same_front : take l.stage l.made ≡ take l.stage l.initial.made;
     }

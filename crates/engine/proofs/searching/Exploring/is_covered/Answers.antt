@@ -2,8 +2,8 @@ use Rattle.engine.specs.Problems.{in_order}
 use Rattle.engine.proofs.Trying.{unbeaten_covered}
 use Rattle.engine.proofs.searching.Exploring.is_covered.Goals as goal
 
-pub returns-then-seen-stage : goal.returns-then-seen-stage
-returns-then-seen-stage g c told =
+pub returns-then-seen-stage-clause-sure : goal.returns-then-seen-stage-clause-sure
+returns-then-seen-stage-clause-sure g c told =
     let a = c.args in
     let p = a.self.now.problem.now in
     let m = in_order (g.P.Decisions.moves p) (g.P.Problem.ahead p) in
