@@ -1,12 +1,13 @@
 -- What is gained along a run, and the same over states that carry it. Assumes nothing.
-use Rattle.std.proofs.Common.{◌≡◌, ℕ, ◌+◌, ◌≤◌, List, [], ◌∷◌, Some, None, Option, sym, refl, ap, ◌∙◌, add-zero, add_assoc, arith}
-use Rattle.std.proofs.lemmas.Bool.{le-ltb, ltb-false}
+use Rattle.std.proofs.Common.{◌≡◌, ℕ, ◌+◌, ◌-◌, ◌*◌, ◌≤◌, List, [], ◌∷◌, length, Some, None, Option, sym, refl, ap, ◌∙◌, add-zero, add_assoc, add-mul, arith}
+use Rattle.std.proofs.lemmas.Bool.{le-ltb, lt-ltb, ltb-false, ltb-true}
 use Rattle.std.specs.Option.{option_map, option_map_or, option_and_then}
 use Rattle.engine.specs.declared.gains.Tally.{Tally}
-use Rattle.engine.specs.Runs.{leads, Way}
-use Rattle.engine.specs.Problems.{Hopeless, Answered}
-use Rattle.engine.specs.Summing.{mapped_some}
-use Rattle.engine.specs.Gaining.{Gaining, gained, Bound, GainAnswered, tally_step, tallied}
+use Rattle.engine.specs.Runs.{MoveLaws, leads, Way}
+use Rattle.engine.specs.Problems.{Hopeless, Covers, Answered}
+use Rattle.engine.specs.Summing.{mapped_some, tally_move_laws}
+use Rattle.engine.proofs.Ways.{fine_along}
+use Rattle.engine.specs.Gaining.{Gaining, SumLaws, gained, Bound, KeepsUp, GainAnswered, tally_step, tallied}
 
 module _ {S : Type 0} (g : Gaining S) where
   -- the state with what choices have gained on the way to it
@@ -41,6 +42,22 @@ module _ {S : Type 0} (g : Gaining S) where
   bound_hopeless i t b n bound low cs e w =
       let way = way_of_tally i t cs e w in
       le-ltb _ _ (omega (arith, bound cs e.state way.0, way.1))
+
+  -- no way on gains more than the most that a choice does, for each stage that is left
+  pub most_bound : MoveLaws g.moves → SumLaws g → (i : ℕ) (s : S) → g.moves.fine i s → Bound g i s ((g.moves.stages - i) * g.most)
+  most_bound moves sums i s fine cs e w =
+      let t = with_gain (i * g.most) s in
+      let end = tally_of_way i t cs e w in
+      let along = fine_along (tallied g).moves (tally_move_laws g moves sums) cs i t _ (omega (arith, w.one_each)) (fine, omega arith) end.ends in
+      let left : g.moves.stages - i ≡ length cs = omega (arith, w.one_each) in
+      rw left (omega (arith, along.1, add-mul i (length cs) g.most))
+
+  -- a state with gains covers another if it gains no less from there on, and has gained no less
+  pub keeps_up_covers : (i : ℕ) (t u : Tally S) → KeepsUp g i t.state u.state → u.gained ≤ t.gained → Covers (tallied g) i t u
+  keeps_up_covers i t u keeps more cs e w =
+      let way = way_of_tally i u cs e w in
+      let up = keeps cs e.state way.0 in
+      (with_gain (t.gained + gained g.moves.step g.gain i t.state cs) up.0, tally_of_way i t cs up.0 up.1, λ s h. lt-ltb _ _ (omega (arith, ltb-true _ _ h, way.1, up.2)))
 
   -- the best run over states with gains gains the most
   pub gain_answered : (room after : List ℕ) (o : Option (Tally S)) → Answered (tallied g) room o after → GainAnswered g room (option_map (λ t. t.gained) o) after

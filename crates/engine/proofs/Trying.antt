@@ -1,19 +1,27 @@
 -- The best so far while choices are tried. Assumes nothing.
-use Rattle.std.proofs.Common.{◌≡◌, ℕ, ◌+◌, ◌-◌, ◌<◌, ◌≤◌, true, false, List, IfSome, Some, None, Option, sym, refl, ap, ◌∙◌, ⊎_elim, arith}
-use Rattle.std.proofs.lemmas.Bool.{both_ways, cases_Bool, cases_eq}
+use Rattle.std.proofs.Common.{◌≡◌, ℕ, ◌+◌, ◌-◌, ◌<◌, ◌≤◌, true, false, List, set, IfSome, Some, None, Option, sym, refl, ◌∙◌, ⊎_elim, arith, below_more}
+use Rattle.std.proofs.lemmas.List.Elements.{All-set}
+use Rattle.std.proofs.lemmas.Bool.Decides.{nat_tests}
+use Rattle.std.proofs.lemmas.Bool.{both_ways, cases_Bool}
 use Rattle.engine.specs.Runs.{MoveLaws}
-use Rattle.engine.specs.Problems.{Model, OrderLaws, Final, Answered}
-use Rattle.engine.specs.Searching.{beats, Unbeaten, Holds, Improved}
+use Rattle.engine.specs.Problems.{Model, OrderLaws, Final, Covers, Answered}
+use Rattle.engine.specs.declared.seen.Seen.{Seen}
+use Rattle.engine.specs.Searching.{beats, Unbeaten, Holds, Improved, Passed, Known, choice_at}
 use Rattle.engine.proofs.Ways.{way_end, way_first, fine_run}
+
+-- two exchanges of the same choices leave all as they were
+pub choice_twice : (first c : ℕ) → choice_at first (choice_at first c) ≡ c
+choice_twice first c = grind (arith, nat_tests)
+
+-- and the choices of all turns are choices
+pub choice_offered : (first c n : ℕ) → c < n → first ≤ n - 1 → choice_at first c < n
+choice_offered first c n l first_l = grind (arith, nat_tests)
 
 module _ {S : Type 0} (m : Model S) where
   -- whatever doesn't beat the old best doesn't beat the new one
   pub still_unbeaten : {best best₁ : Option S} {room room₁ : List ℕ} → Improved m best room best₁ room₁ → (i : ℕ) (s : S) → Unbeaten m i s best → Unbeaten m i s best₁
   still_unbeaten {best} {best₁} better i s none cs e w =
       ⊎_elim (λ yes₁. absurd (both_ways _ (none cs e w) (better.no_worse e yes₁))) (λ no₁. no₁) (cases_Bool (beats m e best₁))
-
-  pub improved_none : (best : Option S) (room : List ℕ) → Holds m best room → Improved m best room best room
-  improved_none best room holds = record { holds = holds; no_worse = λ e h. h; untouched = λ _. refl }
 
   pub improved_more : OrderLaws m.ahead → (best best₁ best₂ : Option S) (room room₁ room₂ : List ℕ) → Improved m best room best₁ room₁ → Improved m best₁ room₁ best₂ room₂ → Improved m best room best₂ room₂
   improved_more order best None best₂ room room₁ room₂ first second = record {
@@ -37,35 +45,47 @@ module _ {S : Type 0} (m : Model S) where
   fine_best laws None room holds = tt
   fine_best laws (Some b) room holds = fine_run m.moves laws room b holds
 
-  -- from every state that a choice from k on leads to, no way on beats the best so far
-  abbrev pub Tried : ℕ → S → ℕ → Option S → Type 0
-  Tried i s k best = (c : ℕ) (t : S) → k ≤ c → m.moves.step i c s ≡ Some t → Unbeaten m (i + 1) t best
+  -- from whatever state a choice leads to, no way on beats the best so far
+  abbrev pub Passing : ℕ → S → ℕ → Option S → Type 0
+  Passing i s c best = (t : S) → m.moves.step i c s ≡ Some t → Unbeaten m (i + 1) t best
 
-  -- a choice more, which isn't allowed
-  pub tried_refused : (i : ℕ) (s : S) (k : ℕ) (best : Option S) → m.moves.step i (k - 1) s ≡ None → Tried i s k best → Tried i s (k - 1) best
-  tried_refused i s k best nowhere tried c t l h =
-      ⊎_elim
-      (λ same. let there : None ≡ Some t = sym nowhere ∙ ap (λ d. m.moves.step i d s) (sym same) ∙ h in absurd (grind arith))
-      (λ other. tried c t (omega arith) h)
-      (cases_eq c (k - 1))
+  -- so it is with the choices of all turns before turn k
+  abbrev pub Tried : ℕ → S → (first k : ℕ) → Option S → Type 0
+  Tried i s first k best = (turn : ℕ) → turn < k → Passing i s (choice_at first turn) best
 
-  -- a choice more, which is
-  pub tried_more : (i : ℕ) (s : S) (k : ℕ) (t : S) {best best₁ : Option S} {room room₁ : List ℕ} → m.moves.step i (k - 1) s ≡ Some t → Improved m best room best₁ room₁ → Unbeaten m (i + 1) t best₁ → Tried i s k best → Tried i s (k - 1) best₁
-  tried_more i s k t step better here tried c u l h =
-      ⊎_elim
-      (λ same. let both : Some t ≡ Some u = sym step ∙ ap (λ d. m.moves.step i d s) (sym same) ∙ h in let there : t ≡ u = grind arith in rw (← there) here)
-      (λ other. still_unbeaten better (i + 1) u (tried c u (omega arith) h))
-      (cases_eq c (k - 1))
+  -- a turn more, whose choice isn't allowed
+  pub tried_refused : (i : ℕ) (s : S) (first k : ℕ) (best : Option S) → m.moves.step i (choice_at first k) s ≡ None → Tried i s first k best → Tried i s first (k + 1) best
+  tried_refused i s first k best nowhere tried =
+      below_more (λ turn. Passing i s (choice_at first turn) best) k tried (λ t h. let there : None ≡ Some t = sym nowhere ∙ h in absurd (grind arith))
+
+  -- a turn more, whose choice is
+  pub tried_more : (i : ℕ) (s : S) (first k : ℕ) (t : S) {best best₁ : Option S} {room room₁ : List ℕ} → m.moves.step i (choice_at first k) s ≡ Some t → Improved m best room best₁ room₁ → Unbeaten m (i + 1) t best₁ → Tried i s first k best → Tried i s first (k + 1) best₁
+  tried_more i s first k t {best} {best₁} step better here tried =
+      below_more
+      (λ turn. Passing i s (choice_at first turn) best₁)
+      k
+      (λ turn l u h. still_unbeaten better (i + 1) u (tried turn l u h))
+      (λ u h. let both : Some t ≡ Some u = sym step ∙ h in let there : t ≡ u = grind arith in rw (← there) here)
 
   -- once all are tried
-  pub tried_all : (i : ℕ) (s : S) (best : Option S) → i < m.moves.stages → Tried i s 0 best → Unbeaten m i s best
-  tried_all i s best l tried cs e w =
-      let first = way_first m.moves i s cs e l w in
-      tried first.choice first.next (omega arith) first.step first.rest e first.way
+  pub tried_all : MoveLaws m.moves → (i : ℕ) (s : S) (first : ℕ) (best : Option S) → i < m.moves.stages → m.moves.fine i s → first ≤ m.moves.choices i - 1 → Tried i s first (m.moves.choices i) best → Unbeaten m i s best
+  tried_all laws i s first best l fine is_choice tried cs e w =
+      let next = way_first m.moves i s cs e l w in
+      let offered = laws.offered i next.choice s next.next l fine next.step in
+      let turn = choice_at first next.choice in
+      let back = choice_twice first next.choice in
+      tried turn (choice_offered first next.choice (m.moves.choices i) offered is_choice) next.next (rw back next.step) next.rest e next.way
 
-  -- none is offered past the last choice
-  pub tried_none : MoveLaws m.moves → (i : ℕ) (s : S) (best : Option S) → i < m.moves.stages → m.moves.fine i s → Tried i s (m.moves.choices i) best
-  tried_none laws i s best l fine c t past h = absurd (omega (arith, laws.offered i c s t l fine h))
+  -- one state more in the table
+  pub known_more : (table table₁ : List (Option (Seen S))) (k : ℕ) (x : Seen S) (best : Option S) → table₁ ≡ set table k (Some x) → Passed m best x → Known m table best → Known m table₁ best
+  known_more table table₁ k x best same passed known = rw same (All-set (λ o. IfSome o (Passed m best)) table k (Some x) passed known)
+
+  -- a state that one before it covers
+  pub unbeaten_covered : (i : ℕ) (a b : S) (best : Option S) → Covers m i a b → Unbeaten m i a best → Unbeaten m i b best
+  unbeaten_covered i a b None covers none cs e w = let f = covers cs e w in absurd (both_ways true (none cs f.0 f.1) refl)
+  unbeaten_covered i a b (Some best) covers none cs e w =
+      let f = covers cs e w in
+      ⊎_elim (λ yes. absurd (both_ways _ (none cs f.0 f.1) (f.2 best yes))) (λ no. no) (cases_Bool (m.ahead e best))
 
   -- what the search ends with, and hands on
   pub answered :

@@ -39,26 +39,21 @@ module _ {S : Type 0} (v : Moves S) where
     pub fine_run : (cs : List ℕ) (e : S) → Run v cs e → v.fine v.stages e
     fine_run cs e r = rw r.one_each at (fine_along cs 0 v.start e (omega (arith, r.one_each)) laws.fine_start r.ends)
 
-    pub fine_came : (i : ℕ) (s : S) (made : List ℕ) → Came v i s made → v.fine i s
-    fine_came i s made came =
-        let long = length-take-le i made (omega (arith, came.within, came.a_place_each)) in
-        let count : 0 + length (take i made) ≡ i = omega arith in
-        rw count at (fine_along (take i made) 0 v.start s (omega (arith, came.within)) laws.fine_start came.leads_here)
-
-  -- one choice more
-  pub came_more : (i : ℕ) (s : S) (made : List ℕ) (c : ℕ) (t : S) → i < v.stages → Came v i s made → v.step i c s ≡ Some t → Came v (i + 1) t (set made i c)
-  came_more i s made c t l came next =
-      let within : i < length made = omega (arith, came.a_place_each) in
-      let long : 0 + length (take i made) ≡ i = omega (arith, length-take-le i made (omega arith)) in
-      record {
-        within = omega arith;
-        a_place_each = length-set made i c ∙ came.a_place_each;
-        leads_here = rw (take_more_set made i c within) (leads_push v.step (take i made) c 0 v.start s t came.leads_here (rw long next));
-      }
+    -- one choice more
+    pub came_more : (i : ℕ) (s : S) (made : List ℕ) (c : ℕ) (t : S) → i < v.stages → Came v i s made → v.step i c s ≡ Some t → Came v (i + 1) t (set made i c)
+    came_more i s made c t l came next =
+        let within : i < length made = omega (arith, came.a_place_each) in
+        let long : 0 + length (take i made) ≡ i = omega (arith, length-take-le i made (omega arith)) in
+        record {
+          within = omega arith;
+          a_place_each = length-set made i c ∙ came.a_place_each;
+          fine = laws.fine_step i c s t l came.fine next;
+          leads_here = rw (take_more_set made i c within) (leads_push v.step (take i made) c 0 v.start s t came.leads_here (rw long next));
+        }
 
   -- only the choices made so far matter
   pub came_front : (i : ℕ) (s : S) (made made₁ : List ℕ) → length made₁ ≡ v.stages → take i made₁ ≡ take i made → Came v i s made → Came v i s made₁
-  came_front i s made made₁ long same came = record { within = came.within; a_place_each = long; leads_here = rw same came.leads_here }
+  came_front i s made made₁ long same came = record { within = came.within; a_place_each = long; fine = came.fine; leads_here = rw same came.leads_here }
 
 -- what is left of a front when one more choice was made after it
 pub front_kept : (i : ℕ) (xs ys zs : List ℕ) (c : ℕ) → take (i + 1) zs ≡ take (i + 1) (set ys i c) → take i ys ≡ take i xs → take i zs ≡ take i xs

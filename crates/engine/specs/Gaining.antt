@@ -38,6 +38,10 @@ gained_by g cs = gained g.moves.step g.gain 0 g.moves.start cs
 abbrev pub Bound : {S : Type 0} → Gaining S → ℕ → S → ℕ → Type 0
 Bound {S} g i s n = (cs : List ℕ) (e : S) → Way g.moves i s cs e → gained g.moves.step g.gain i s cs ≤ n
 
+-- at stage i, whatever choices lead on from the state b lead on from the state a too, and gain no less there
+abbrev pub KeepsUp : {S : Type 0} → Gaining S → ℕ → S → S → Type 0
+KeepsUp {S} g i a b = (cs : List ℕ) (e : S) → Way g.moves i b cs e → (f : S) × Way g.moves i a cs f × (gained g.moves.step g.gain i b cs ≤ gained g.moves.step g.gain i a cs)
+
 -- a run that gains n, and none gains more
 pub record BestGain {S : Type 0} (g : Gaining S) (cs : List ℕ) (n : ℕ) : Type 0 where
   pub run : (e : S) × Run g.moves cs e

@@ -28,6 +28,14 @@ Final m s = m.moves.fine m.moves.stages s
 abbrev pub Hopeless : {S : Type 0} → Model S → ℕ → S → S → Type 0
 Hopeless {S} m i s b = (cs : List ℕ) (e : S) → Way m.moves i s cs e → m.ahead e b ≡ false
 
+-- the state f is ahead of whatever the state e is ahead of
+abbrev pub NoWorse : {S : Type 0} → Model S → S → S → Type 0
+NoWorse {S} m f e = (s : S) → m.ahead e s ≡ true → m.ahead f s ≡ true
+
+-- at stage i, whatever choices lead on from the state b lead on from the state a too, to an end that is no worse
+abbrev pub Covers : {S : Type 0} → Model S → ℕ → S → S → Type 0
+Covers {S} m i a b = (cs : List ℕ) (e : S) → Way m.moves i b cs e → (f : S) × Way m.moves i a cs f × NoWorse m f e
+
 -- a best run is one that no run ends ahead of
 pub record BestRun {S : Type 0} (m : Model S) (cs : List ℕ) (e : S) : Type 0 where
   pub run : Run m.moves cs e

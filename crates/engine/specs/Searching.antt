@@ -1,5 +1,7 @@
 -- What holds while the search goes on. Assumes nothing: these are definitions.
-use Rattle.std.specs.Prelude.{◌≡◌, ℕ, ◌≤◌, Bool, true, false, List, length, take, Some, None, Option}
+use Rattle.std.specs.Prelude.{◌≡◌, ℕ, ◌<◌, ◌≤◌, Bool, true, false, List, length, take, Some, None, Option, IfSome, if◌then◌else◌, ◌==◌}
+use Rattle.std.specs.List.{All}
+use Rattle.engine.specs.declared.seen.Seen.{Seen}
 use Rattle.engine.specs.Runs.{Moves, leads, Way, Run}
 use Rattle.engine.specs.Problems.{Model}
 
@@ -17,10 +19,29 @@ abbrev pub Holds : {S : Type 0} → Model S → Option S → (room : List ℕ) �
 Holds m None room = Unit {0}
 Holds m (Some b) room = Run m.moves room b
 
--- the choices made so far, one for each stage before stage i, lead to the state s
+-- what stands at a place of the table is a state of a stage before the end, and no way on from it ends ahead of the best so far
+pub record Passed {S : Type 0} (m : Model S) (best : Option S) (x : Seen S) : Type 0 where
+  pub within : x.stage < m.moves.stages
+  pub fine : m.moves.fine x.stage x.state
+  pub unbeaten : Unbeaten m x.stage x.state best
+
+-- so it is with whatever stands in the table
+abbrev pub Known : {S : Type 0} → Model S → (table : List (Option (Seen S))) → Option S → Type 0
+Known m table best = All (λ o. IfSome o (Passed m best)) table
+
+-- there is no best so far, and nothing stands in the table
+abbrev pub Fresh : {S : Type 0} → Option S → (table : List (Option (Seen S))) → Type 0
+Fresh best table = (best ≡ None) × All (λ o. o ≡ None) table
+
+-- the choice whose turn it is: the one to try first has changed places with the choice 0
+abbrev pub choice_at : (first turn : ℕ) → ℕ
+choice_at first turn = if turn == 0 then first else if turn == first then 0 else turn
+
+-- the choices made so far, one for each stage before stage i, lead to the state s, of which holds what does of all that are reached
 pub record Came {S : Type 0} (v : Moves S) (i : ℕ) (s : S) (made : List ℕ) : Type 0 where
   pub within : i ≤ v.stages
   pub a_place_each : length made ≡ v.stages
+  pub fine : v.fine i s
   pub leads_here : leads v.step 0 v.start (take i made) ≡ Some s
 
 -- from one best so far to the next: whatever is ahead of the new one is ahead of the old one, and the room is as it was while there is none

@@ -1,11 +1,12 @@
 // Decisions that gain something: the run that gains the most.
-ghost use Rattle.std.specs.Prelude.{◌≡◌, ℕ, ◌<◌, true, length, is_some};
-ghost use Rattle.engine.specs.Gaining.{Gain, gaining, SumLaws, Bound, GainAnswered, tally_moves, tally_order};
+ghost use Rattle.std.specs.Prelude.{◌≡◌, ℕ, ◌-◌, ◌<◌, ◌≤◌, true, length, is_some, None};
+ghost use Rattle.engine.specs.Gaining.{Gain, gaining, SumLaws, Bound, KeepsUp, GainAnswered, tally_moves, tally_order};
 ghost use Rattle.engine.specs.Summing.{tally_move_laws, tally_order_laws};
 
 use crate::decisions::Decisions;
 use crate::problem::Problem;
 use crate::searching::search;
+use crate::seen::Seen;
 
 // A sequence of decisions by which something is gained, in whole numbers that add up.
 pub trait Gains: Decisions {
@@ -30,6 +31,26 @@ pub trait Gains: Decisions {
         requires fine { (Self.moves self.now).fine stage state }
         ensures { Bound (gaining (Self.moves self.now) (gain self.now) (most self.now)) stage state result };
 
+    // Whether it is sure that whatever choices lead on from the second state lead on from the first one too, and gain no less there. Whoever
+    // can't tell says no.
+    // Kept: stage and states come one by one, as in `Decisions`.
+    fn covers(&self, stage: usize, seen: Self::State, state: Self::State) -> bool
+        requires within { stage < (Self.moves self.now).stages }
+        requires seen_fine { (Self.moves self.now).fine stage seen }
+        requires fine { (Self.moves self.now).fine stage state }
+        ensures { result ≡ true → KeepsUp (gaining (Self.moves self.now) (gain self.now) (most self.now)) stage seen state }
+    {
+        false
+    }
+
+    // A place for the state in the table of states seen before. Nothing is promised of it.
+    fn slot(&self, stage: usize, state: Self::State) -> u64
+        requires within { stage < (Self.moves self.now).stages }
+        requires fine { (Self.moves self.now).fine stage state }
+    {
+        0
+    }
+
     // What is asked of the gains, and each impl proves: all that can be gained together fits.
     ghost sum_laws: { (x : Self) → SumLaws (gaining (Self.moves x) (gain x) (most x)) };
 }
@@ -45,6 +66,45 @@ pub struct Tally<S> {
 #[derive(Drop)]
 pub struct Summed<G> {
     pub gains: G,
+}
+
+impl<G: Gains> Summed<G> {
+    // What a choice gains, and the bound of where it leads. One that isn't allowed promises nothing.
+    fn promise(&self, stage: usize, choice: u8, state: G::State) -> u64
+        requires within { stage < (G.moves self.now.gains).stages }
+        requires offered { choice < (G.moves self.now.gains).choices stage }
+        requires fine { (G.moves self.now.gains).fine stage state }
+        ensures refused { (G.moves self.now.gains).step stage choice state ≡ None → result ≡ 0 }
+        ensures allowed { is_some ((G.moves self.now.gains).step stage choice state) ≡ true → G.gain self.now.gains stage choice state ≤ result }
+    {
+        let Some(next) = self.gains.step(stage, choice, state) else {
+            return 0;
+        };
+        let gain = self.gains.gain(stage, choice, state);
+        if self.gains.stages() == stage + 1 {
+            return gain;
+        }
+        gain.saturating_add(self.gains.bound(stage + 1, next))
+    }
+
+    // The choice that promises most, or 0 if none promises anything.
+    fn most_promising(&self, stage: usize, state: G::State) -> u8
+        requires within { stage < (G.moves self.now.gains).stages }
+        requires fine { (G.moves self.now.gains).fine stage state }
+        ensures { result ≤ (G.moves self.now.gains).choices stage - 1 }
+    {
+        let mut first = 0;
+        let mut most = 0;
+        // Kept: no list is gone through here, since a choice is a number.
+        for choice in 0..self.gains.choices(stage) {
+            let promise = self.promise(stage, choice, state);
+            if promise > most {
+                first = choice;
+                most = promise;
+            }
+        }
+        first
+    }
 }
 
 impl<G: Gains> Decisions for Summed<G> {
@@ -90,14 +150,45 @@ impl<G: Gains> Problem for Summed<G> {
     fn is_hopeless(&self, stage: usize, at: Tally<G::State>, best: Tally<G::State>) -> bool {
         at.gained <= best.gained && self.gains.bound(stage, at.state) <= best.gained - at.gained
     }
+
+    fn covers(&self, stage: usize, seen: Tally<G::State>, at: Tally<G::State>) -> bool {
+        seen.gained >= at.gained && self.gains.covers(stage, seen.state, at.state)
+    }
+
+    // The same place whatever was gained.
+    fn slot(&self, stage: usize, at: Tally<G::State>) -> u64 {
+        self.gains.slot(stage, at.state)
+    }
+
+    // The choice that promises most.
+    fn first_choice(&self, stage: usize, at: Tally<G::State>) -> u8 {
+        self.most_promising(stage, at.state)
+    }
+}
+
+// What a search came to: the most that can be gained, if there is a run at all, and how many states it went on from or ended in.
+#[derive(Clone, Copy, Debug, PartialEq)]
+pub struct Gained {
+    pub most: Option<u64>,
+    pub visited: u64,
 }
 
 // Leaves a run that gains the most in the room and answers how much that is, or answers that there is no run at all and leaves the room as it
-// was. What is left in `made` means nothing.
-pub fn gain_most<G: Gains>(problem: &Summed<G>, made: &mut [u8], room: &mut [u8]) -> Option<u64>
+// was. What is left in `made` and in the table `seen` means nothing, and neither does what the table holds before.
+pub fn gain_most<G: Gains>(
+    problem: &Summed<G>,
+    made: &mut [u8],
+    seen: &mut [Option<Seen<Tally<G::State>>>],
+    room: &mut [u8],
+) -> Gained
     requires a_place_each { length made.old ≡ (G.moves problem.now.gains).stages }
     requires one_each { length room.old ≡ (G.moves problem.now.gains).stages }
-    ensures { GainAnswered (gaining (G.moves problem.now.gains) (G.gain problem.now.gains) (G.most problem.now.gains)) room.old result room.new }
+    ensures answered { GainAnswered (gaining (G.moves problem.now.gains) (G.gain problem.now.gains) (G.most problem.now.gains)) room.old result.most room.new }
+    ensures counted { 0 < result.visited }
 {
-    search(problem, made, room).map(|end| end.gained)
+    let found = search(problem, made, seen, room);
+    Gained {
+        most: found.best.map(|end| end.gained),
+        visited: found.visited,
+    }
 }

@@ -5,10 +5,12 @@ mod decisions;
 mod gains;
 mod problem;
 mod searching;
+mod seen;
 #[cfg(test)]
 mod tests;
 
 pub use decisions::Decisions;
-pub use gains::{Gains, Summed, Tally, gain_most};
+pub use gains::{Gained, Gains, Summed, Tally, gain_most};
 pub use problem::Problem;
-pub use searching::search;
+pub use searching::{Searched, search};
+pub use seen::Seen;

@@ -1,5 +1,5 @@
-// A small problem of which some sizes have no run at all.
-ghost use Rattle.std.specs.Prelude.{◌+◌, ◌<◌, cond, ◌&&◌, Some, None, nat_le, nat_lt};
+// Small problems: one of which some sizes have no run at all, and one of which most is left out.
+ghost use Rattle.std.specs.Prelude.{◌+◌, ◌%◌, ◌<◌, cond, ◌&&◌, Some, None, nat_le, nat_lt};
 ghost use Rattle.std.proofs.Common.{arith};
 ghost use Rattle.std.proofs.lemmas.Bool.Decides.{nat_tests};
 
@@ -58,22 +58,117 @@ impl Problem for Rising {
     }
 }
 
+// Six stages, worth 1, 2 and 3 by turns, of which some are chosen, no two next to one another. The state is 1 after one that was.
+#[derive(Drop)]
+struct Apart;
+
+impl Decisions for Apart {
+    type State = u8;
+
+    ghost moves = { λ p. record {
+      stages = 6;
+      choices = λ i. 2;
+      start = 0;
+      step = λ i c s. cond (nat_lt (c + s) 2) (Some c) None;
+      fine = λ i s. s < 2;
+    } };
+
+    ghost move_laws = { λ p. record {
+      fine_start = Prim.grind (arith, nat_tests);
+      fine_step = λ i c s t l fine h. Prim.grind (arith, nat_tests);
+      offered = λ i c s t l fine h. Prim.grind (arith, nat_tests);
+    } };
+
+    fn stages(&self) -> usize {
+        6
+    }
+
+    fn choices(&self, _stage: usize) -> u8 {
+        2
+    }
+
+    fn start(&self) -> u8 {
+        0
+    }
+
+    fn step(&self, _stage: usize, choice: u8, state: u8) -> Option<u8> {
+        (choice + state < 2).then_some(choice)
+    }
+}
+
+impl Gains for Apart {
+    ghost gain = { λ p i c s. cond (nat_lt 0 c) (i % 3 + 1) 0 };
+
+    ghost most = { λ p. 3 };
+
+    ghost sum_laws = { λ p. record {
+      at_most = λ i c s t l fine h. Prim.grind (arith, nat_tests);
+      fits = Prim.omega arith;
+    } };
+
+    fn gain(&self, stage: usize, choice: u8, _state: u8) -> u64 {
+        if choice > 0 { stage as u64 % 3 + 1 } else { 0 }
+    }
+
+    fn bound(&self, stage: usize, _state: u8) -> u64 {
+        (6 - stage as u64) * 3
+    }
+
+    fn covers(&self, _stage: usize, seen: u8, state: u8) -> bool {
+        seen == state
+    }
+
+    fn slot(&self, stage: usize, state: u8) -> u64 {
+        2 * stage as u64 + u64::from(state)
+    }
+}
+
 #[test]
 fn the_lowest_rising_numbers(rt: HostRuntime) {
-    for (stages, end, left) in [
-        (0, Some(0), [9, 9, 9, 9]),
-        (2, Some(2), [0, 1, 9, 9]),
-        (3, Some(3), [0, 1, 2, 9]),
+    for (stages, best, left, visited) in [
+        (0, Some(0), [9, 9, 9, 9], 1),
+        (2, Some(2), [0, 1, 9, 9], 7),
+        (3, Some(3), [0, 1, 2, 9], 8),
         // there are only three numbers: no run at all, and the room is as it was
-        (4, None, [9, 9, 9, 9]),
+        (4, None, [9, 9, 9, 9], 8),
     ] {
         let mut made = [7; 4];
         let mut room = [9; 4];
         let problem = Rising { stages };
         assert_eq!(rt;
-            search(&problem, &mut made[..stages], &mut room[..stages]),
-            end
+            search(&problem, &mut made[..stages], &mut [], &mut room[..stages]),
+            Searched { best, visited }
         );
         assert_eq!(rt; room, left);
+        // nothing in the table covers anything, so it changes nothing
+        assert_eq!(rt;
+            search(
+                &problem,
+                &mut made[..stages],
+                &mut [None; 4],
+                &mut room[..stages]
+            ),
+            Searched { best, visited }
+        );
+        assert_eq!(rt; room, left);
+    }
+}
+
+#[test]
+fn the_most_without_neighbours(rt: HostRuntime) {
+    let problem = Summed { gains: Apart };
+    let mut seen = [None; 8];
+    // without the bound 53 states are visited, and without the first choice 39; the last table holds what the search before it left there
+    for (places, visited) in [(0, 23), (8, 16), (8, 16)] {
+        let mut made = [7; 6];
+        let mut room = [9; 6];
+        assert_eq!(rt;
+            gain_most(&problem, &mut made, &mut seen[..places], &mut room),
+            Gained {
+                most: Some(7),
+                visited
+            }
+        );
+        assert_eq!(rt; room, [1, 0, 1, 0, 0, 1]);
     }
 }

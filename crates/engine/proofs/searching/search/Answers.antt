@@ -6,10 +6,10 @@ use Rattle.engine.proofs.searching.search.Goals as goal
 
 pub explore-requires-clause-came : goal.explore-requires-clause-came
 unfolding leads
-explore-requires-clause-came g c = record { within = omega arith; a_place_each = c.requires.a_place_each; leads_here = search rules }
+explore-requires-clause-came g c = record { within = omega arith; a_place_each = c.requires.a_place_each; fine = rw c.start.ensures (g.met.P.Decisions.move_laws c.args.problem.now).fine_start; leads_here = search rules }
 
-pub returns : goal.returns
-returns g c =
+pub returns-clause-answered : goal.returns-clause-answered
+returns-clause-answered g c =
     let p = c.args.problem.now in
     let m = in_order (g.P.Decisions.moves p) (g.P.Problem.ahead p) in
     let told = c.explore.ensures in
