@@ -10,13 +10,9 @@ use Rattle.passes.specs.declared.model.Pass.{Pass}
 use Rattle.passes.specs.Rule.{nth}
 use Rattle.pruning.specs.declared.rounding.TheConstants.{MOST_DISHES}
 use Rattle.pruning.specs.declared.rounding.NextPasses.{NextPasses}
-use Rattle.pruning.specs.Rounding.{suits, next_pass, each_dish, next_then, allowed, go_on, NextFor, Upcoming, rounded_night}
+use Rattle.pruning.specs.Rounding.{suits, next_pass, each_dish, next_then, allowed, go_on, NextFor, NoLater, Upcoming, rounded_night}
 use Rattle.pruning.specs.Suiting.{each_dish_at, next_within, next_none}
 use Rattle.pruning.specs.Lawful.{went_on, then_followed, then_waits, then_kept, rounded_moves}
-
--- no dish's next pass comes later in the state a than in b
-abbrev pub NoLater : NextPasses → NextPasses → Type 0
-NoLater a b = (d : ℕ) → d < MOST_DISHES → slice_index a.next d ≤ slice_index b.next d
 
 module _ (turns : List ℕ) (ps : List Pass) (few : length turns ≤ MOST_DISHES) where
   -- a decision that b allows

@@ -49,6 +49,10 @@ pub record Upcoming (turns : List ℕ) (ps : List Pass) (i : ℕ) (s : NextPasse
   pub one_each : length s.next ≡ MOST_DISHES
   pub each : (d : ℕ) → d < MOST_DISHES → NextFor turns ps i d (slice_index s.next d)
 
+-- no dish's next pass comes later in the state a than in b
+abbrev pub NoLater : NextPasses → NextPasses → Type 0
+NoLater a b = (d : ℕ) → d < MOST_DISHES → slice_index a.next d ≤ slice_index b.next d
+
 -- no pass is worth more than 32 bits hold
 abbrev pub Small : List Pass → Type 0
 Small ps = (i : ℕ) → i < length ps → (nth ps i).worth < 2 ^ 32

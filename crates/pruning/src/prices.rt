@@ -200,4 +200,13 @@ impl Gains for Priced<'_> {
         }
         bound / SCALE
     }
+
+    // Each dish is free no later.
+    fn covers(&self, _stage: usize, seen: NextPasses, state: NextPasses) -> bool {
+        seen.comes_no_later(state)
+    }
+
+    fn slot(&self, stage: usize, state: NextPasses) -> u64 {
+        state.mixed_with(stage)
+    }
 }

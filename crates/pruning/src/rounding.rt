@@ -1,10 +1,10 @@
 // States of a night, rounded up: of each dish, in place of the second from which it is free, the next pass that it may still follow.
-ghost use Rattle.std.specs.Prelude.{◌≡◌, ◌+◌, ◌<◌, ◌≤◌, ◌&&◌, length, nat_lt, nat_le, slice_index};
+ghost use Rattle.std.specs.Prelude.{◌≡◌, ◌+◌, ◌<◌, ◌≤◌, ◌&&◌, length, nat_lt, nat_le, slice_index, ◌^◌, MatchBool};
 ghost use Rattle.passes.specs.Follow.{may};
 ghost use Rattle.passes.specs.Rule.{nth};
 ghost use Rattle.capacity.specs.Order.{InTime, InTime-prop};
 ghost use Rattle.pruning.specs.declared.rounding.TheConstants.{MOST_DISHES, MOST_PASSES};
-ghost use Rattle.pruning.specs.Rounding.{suits, next_pass, allowed, next_then, go_on, rounded_night};
+ghost use Rattle.pruning.specs.Rounding.{suits, next_pass, allowed, next_then, go_on, NoLater, rounded_night};
 
 use passes::Pass;
 
@@ -12,6 +12,9 @@ use passes::Pass;
 pub const MOST_DISHES: usize = 8;
 
 pub const MOST_PASSES: usize = 128;
+
+// An odd number with ones and zeros all over, 2^64 by the golden ratio.
+const MIXER: u64 = 0x9e37_79b9_7f4a_7c15;
 
 // The next pass that each dish may still follow, by its place in the list; the number of passes stands for none.
 // Kept: a place for each of the most dishes, however many there are, since memory is fixed.
@@ -27,6 +30,24 @@ impl NextPasses {
         ensures { result ≡ slice_index self.next dish }
     {
         self.next[dish] as usize
+    }
+
+    // Whether each dish's next pass comes no later than by the other state.
+    pub fn comes_no_later(self, other: NextPasses) -> bool
+        ensures { MatchBool result (NoLater self other) (NoLater self other → ⊥) }
+    {
+        self.next
+            .iter()
+            .zip(&other.next)
+            .all(|(mine, others)| mine <= others)
+    }
+
+    // A number in which all next passes and the stage are mixed, the same for the same ones.
+    pub fn mixed_with(self, stage: usize) -> u64
+        ensures { result < 2 ^ 32 }
+    {
+        let mixed = u64::from_le_bytes(self.next).wrapping_mul(MIXER);
+        (mixed ^ (mixed >> 32) ^ stage as u64).wrapping_mul(MIXER) >> 32
     }
 }
 
