@@ -2,3 +2,4 @@ pub mod Leading
 pub mod Ways
 pub mod Trying
 pub mod Tallies
+pub mod Mapping

@@ -3,3 +3,4 @@ pub mod Problems
 pub mod Searching
 pub mod Gaining
 pub mod Summing
+pub mod Mapping
