@@ -2,7 +2,7 @@
 use Rattle.std.proofs.Common.{◌≡◌, ℕ, ◌+◌, ◌<◌, ◌≤◌, List, [], ◌∷◌, length, Some, None, Option, sym, refl, ap, ◌∙◌, add-zero, arith}
 use Rattle.std.specs.Option.{option_map, option_map_or, option_and_then}
 use Rattle.engine.specs.Runs.{MoveLaws, leads, Run}
-use Rattle.engine.specs.Gaining.{Gaining, gained, gained_by, BestGain}
+use Rattle.engine.specs.Gaining.{Gaining, gained, gained_by, BestGain, GainAnswered}
 use Rattle.engine.specs.Mapping.{Mapping, SameRuns}
 use Rattle.engine.specs.Summing.{mapped_some}
 use Rattle.engine.proofs.Leading.{leads_first}
@@ -46,15 +46,21 @@ module _ {S T : Type 0} (g : Gaining S) (h : Gaining T) (f : ℕ → S → T) (l
     gains = λ cs e run. rw maps.start (gains_same cs 0 g.moves.start e (omega (arith, run.one_each)) laws.fine_start run.ends);
   }
 
--- what is best for the one is so for the other
-pub best_same : {S T : Type 0} (g : Gaining S) (h : Gaining T) → SameRuns g h → (cs : List ℕ) (n : ℕ) → BestGain h cs n → BestGain g cs n
-best_same g h same cs n best =
-    let run = same.back cs best.run.0 best.run.1 in
-    record {
-      run = run;
-      gains = best.gains ∙ same.gains cs run.0 run.1;
-      most = λ ds e other.
-          let there = same.there ds e other in
-          let low = best.most ds there.0 there.1 in
-          omega (arith, same.gains ds e other);
-    }
+module _ {S T : Type 0} (g : Gaining S) (h : Gaining T) (same : SameRuns g h) where
+  -- what is best for the one is so for the other
+  pub best_same : (cs : List ℕ) (n : ℕ) → BestGain h cs n → BestGain g cs n
+  best_same cs n best =
+      let run = same.back cs best.run.0 best.run.1 in
+      record {
+        run = run;
+        gains = best.gains ∙ same.gains cs run.0 run.1;
+        most = λ ds e other.
+            let there = same.there ds e other in
+            let low = best.most ds there.0 there.1 in
+            omega (arith, same.gains ds e other);
+      }
+
+  -- and so is what is answered
+  pub gain_same : (room after : List ℕ) (o : Option ℕ) → GainAnswered h room o after → GainAnswered g room o after
+  gain_same room after None answered = (λ cs e run. let there = same.there cs e run in answered.0 cs there.0 there.1, answered.1)
+  gain_same room after (Some n) best = best_same after n best

@@ -5,3 +5,4 @@ pub mod Stations
 pub mod Finite
 pub mod More
 pub mod Apart
+pub mod Rounding

@@ -13,7 +13,7 @@ use Rattle.passes.specs.Rule.{says}
 use Rattle.capacity.specs.Alone.{Planned}
 use Rattle.capacity.specs.Order.{InTime}
 use Rattle.capacity.proofs.Timing.{in_time_from_checked, few_dishes_from_checked}
-use Rattle.planner.specs.declared.scheduling.TheConstants.{MOST_DISHES}
+use Rattle.pruning.specs.declared.rounding.TheConstants.{MOST_DISHES}
 use Rattle.planner.specs.declared.scheduling.FreeFrom.{FreeFrom}
 use Rattle.planner.specs.Dishes.{seen_by, fits_each, turns_of}
 use Rattle.planner.specs.Nights.{night}

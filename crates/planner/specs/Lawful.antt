@@ -4,9 +4,9 @@ use Rattle.std.proofs.lemmas.Bool.Decides.{nat_tests}
 use Rattle.engine.specs.Runs.{MoveLaws}
 use Rattle.engine.specs.Gaining.{SumLaws}
 use Rattle.passes.specs.declared.model.Pass.{Pass}
-use Rattle.planner.specs.declared.scheduling.TheConstants.{MOST_PASSES}
+use Rattle.pruning.specs.declared.rounding.TheConstants.{MOST_PASSES}
+use Rattle.pruning.specs.Rounding.{Small}
 use Rattle.planner.specs.Nights.{night}
-use Rattle.planner.specs.Sums.{Small}
 
 -- steps keep a second for each dish, and no more is allowed than is offered
 pub night_moves : (turns : List ℕ) (ps : List Pass) → MoveLaws (night turns ps).moves

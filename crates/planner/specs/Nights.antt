@@ -4,7 +4,7 @@ use Rattle.engine.specs.Gaining.{Gaining}
 use Rattle.passes.specs.declared.model.Pass.{Pass}
 use Rattle.passes.specs.Follow.{may}
 use Rattle.passes.specs.Rule.{nth}
-use Rattle.planner.specs.declared.scheduling.TheConstants.{MOST_DISHES}
+use Rattle.pruning.specs.declared.rounding.TheConstants.{MOST_DISHES}
 use Rattle.planner.specs.declared.scheduling.FreeFrom.{FreeFrom}
 
 -- the dish that plans call d can follow the pass: it is there, may follow it, and is free when it begins

@@ -1,14 +1,18 @@
 -- Statements about the definitions. Each is proved: a function of src/laws.rt has it as its contract. Assumes nothing.
-use Rattle.std.specs.Prelude.{◌≡◌, ℕ, ◌+◌, ◌<◌, ◌≤◌, Bool, true, List, ◌∷◌, ◌++◌, length}
+use Rattle.std.specs.Prelude.{◌≡◌, ℕ, ◌+◌, ◌<◌, ◌≤◌, Bool, true, List, ◌∷◌, ◌++◌, length, slice_index}
 use Rattle.engine.specs.Runs.{Run}
 use Rattle.engine.specs.Gaining.{Gaining, gained_by}
+use Rattle.engine.specs.Mapping.{Mapping, SameRuns}
 use Rattle.passes.specs.declared.model.Pass.{Pass}
 use Rattle.passes.specs.declared.model.Station.{Station}
 use Rattle.passes.specs.Checks.{checked}
 use Rattle.passes.specs.Plans.{Plan, fits, worth_of, Best}
 use Rattle.passes.specs.Rule.{nth}
 use Rattle.capacity.specs.Order.{InTime}
-use Rattle.planner.specs.declared.scheduling.TheConstants.{MOST_DISHES}
+use Rattle.pruning.specs.declared.rounding.TheConstants.{MOST_DISHES}
+use Rattle.pruning.specs.declared.rounding.NextPasses.{NextPasses}
+use Rattle.pruning.specs.Rounding.{next_pass, each_dish, rounded_night}
+use Rattle.planner.specs.declared.scheduling.FreeFrom.{FreeFrom}
 use Rattle.planner.specs.Dishes.{fits_each, turns_of}
 use Rattle.planner.specs.Nights.{night}
 
@@ -25,6 +29,18 @@ EachIsNight = (turns : List ℕ) (ps : List Pass) → length turns ≤ MOST_DISH
 -- and so they are for a station and a list that pass the checks
 abbrev pub StationIsNight : Type 0
 StationIsNight = (s : Station) (ps : List Pass) → checked s ps ≡ true → PlansAreRuns (fits s ps) ps (night (turns_of s) ps)
+
+-- a state of the night, rounded up at pass i: of each dish, in place of the second from which it is free, the next pass that it may still follow
+abbrev pub rounded_up : (turns : List ℕ) → List Pass → (i : ℕ) → FreeFrom → NextPasses
+rounded_up turns ps i s = each_dish (λ d. next_pass turns ps d i (slice_index s.seconds d))
+
+-- rounding up changes no run, and nothing that is gained
+pub record ChangesNoRun (turns : List ℕ) (ps : List Pass) : Type 0 where
+  pub states : Mapping (night turns ps) (rounded_night turns ps) (rounded_up turns ps)
+  pub runs : SameRuns (night turns ps) (rounded_night turns ps)
+
+abbrev pub RoundingUp : Type 0
+RoundingUp = (turns : List ℕ) (ps : List Pass) → length turns ≤ MOST_DISHES → InTime ps → ChangesNoRun turns ps
 
 -- every list of passes, sorted or not, has a best plan
 abbrev pub HasBest : Type 0

@@ -1,7 +1,6 @@
 -- What passes are worth together. Assumes nothing: these are definitions.
-use Rattle.std.specs.Prelude.{◌≡◌, ℕ, ◌^◌, ◌<◌, ◌≤◌, List, length, sum_by, drop, slice_index}
+use Rattle.std.specs.Prelude.{◌≡◌, ℕ, ◌≤◌, List, length, sum_by, drop, slice_index}
 use Rattle.passes.specs.declared.model.Pass.{Pass}
-use Rattle.passes.specs.Rule.{nth}
 
 -- what the passes of a list are worth together
 abbrev pub all_worth : List Pass → ℕ
@@ -10,7 +9,3 @@ all_worth ps = sum_by (λ p. p.worth) ps
 -- from entry i on, entry k of a table is what the passes from pass k on are worth together; the last one stands behind all passes
 abbrev pub AddsUp : List Pass → ℕ → (table : List ℕ) → Type 0
 AddsUp ps i table = (k : ℕ) → i ≤ k → k ≤ length ps → slice_index table k ≡ all_worth (drop k ps)
-
--- no pass is worth more than 32 bits hold
-abbrev pub Small : List Pass → Type 0
-Small ps = (i : ℕ) → i < length ps → (nth ps i).worth < 2 ^ 32

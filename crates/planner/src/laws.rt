@@ -1,6 +1,6 @@
 // Theorems about the definitions, each on the contract of a function.
 // Kept: these functions differ in their contracts alone, and what a contract states can't be a parameter.
-ghost use Rattle.planner.specs.Statements.{EachIsNight, StationIsNight, HasBest, MoreDishes, OneMore, SideBySide};
+ghost use Rattle.planner.specs.Statements.{EachIsNight, StationIsNight, RoundingUp, HasBest, MoreDishes, OneMore, SideBySide};
 
 // For dishes each of which takes its own time to turn, the good plans are the runs of the night.
 pub fn each_is_night_stands() -> u8
@@ -12,6 +12,13 @@ pub fn each_is_night_stands() -> u8
 // For a station and a list that pass the checks too.
 pub fn station_is_night_stands() -> u8
     ensures { StationIsNight }
+{
+    0
+}
+
+// The next pass that a dish may still follow says as much of it as the second from which it is free.
+pub fn rounding_up_stands() -> u8
+    ensures { RoundingUp }
 {
     0
 }

@@ -9,9 +9,9 @@ ghost use Rattle.std.specs.Prelude.{◌≤◌};
 
 pub use laws::{
     each_is_night_stands, has_best_stands, more_dishes_stands, one_more_stands,
-    side_by_side_stands, station_is_night_stands,
+    rounding_up_stands, side_by_side_stands, station_is_night_stands,
 };
-pub use planning::{Done, plan, try_plan};
+pub use planning::{Counted, Done, plan, plan_counted, try_plan};
 pub use scheduling::{FreeFrom, Scheduling};
 
 #[cfg(test)]
@@ -121,7 +121,7 @@ mod tests {
         };
         let mut made = [0; N];
         let mut room = [9; N];
-        gain_most(&problem, &mut made, &mut room)
+        gain_most(&problem, &mut made, &mut [], &mut room).most
     }
 
     #[test]

@@ -1,5 +1,5 @@
 // The entry: a best plan over all plans.
-ghost use Rattle.std.specs.Prelude.{◌≡◌, length, MatchResult};
+ghost use Rattle.std.specs.Prelude.{◌≡◌, ◌<◌, length, MatchResult};
 ghost use Rattle.std.specs.Result.{result_err};
 ghost use Rattle.engine.specs.Gaining.{BestGain};
 ghost use Rattle.passes.specs.Nights.{passes_of, station_of};
@@ -9,9 +9,12 @@ ghost use Rattle.capacity.specs.Alone.{Planned as BestPlanWorth};
 ghost use Rattle.planner.specs.Answers.{done_of, DoneSays};
 ghost use Rattle.planner.specs.Nights.{night as night_of};
 
-use crate::scheduling::{MOST_PASSES, Scheduling};
 use engine::{Summed, gain_most};
 use passes::{MAX_DISHES, Night, Refusal};
+use pruning::{Auction, MOST_PASSES, Priced, Rounded};
+
+// How many states the search remembers.
+const PLACES: usize = 4096;
 
 // What came of planning.
 // Kept: the planning entry's form is fixed, a kind and a number, since C has no `Result`.
@@ -48,32 +51,64 @@ pub fn try_plan(dishes: u64, turn: u64, passes: &[u32], room: &mut [u8]) -> Resu
     ensures refusal { result_err result ≡ refused_with_room dishes turn passes.now (length room.old) }
     ensures planned { MatchResult result (λ w. BestPlanWorth (station_of dishes turn) (passes_in passes.now) room.new w) (λ _. room.new ≡ room.old) }
 {
+    plan_counted(dishes, turn, passes, room).map(|counted| counted.worth)
+}
+
+// What a best plan is worth, and how many states the search visited for it.
+#[derive(Clone, Copy, Debug, PartialEq)]
+pub struct Counted {
+    pub worth: u64,
+    pub visited: u64,
+}
+
+// As `try_plan`, with how many states the search visited. Kept: it is lent what `plan` is.
+pub fn plan_counted(
+    dishes: u64,
+    turn: u64,
+    passes: &[u32],
+    room: &mut [u8],
+) -> Result<Counted, Refusal>
+    ensures refusal { result_err result ≡ refused_with_room dishes turn passes.now (length room.old) }
+    ensures planned { MatchResult result (λ c. BestPlanWorth (station_of dishes turn) (passes_in passes.now) room.new c.worth × (0 < c.visited)) (λ _. room.new ≡ room.old) }
+{
     let night = Night::read_for_room(dishes, turn, passes, room.len())?;
     Ok(plan_night(&night, room))
 }
 
 // Leaves a best plan of a night in the room, and answers its worth.
 // Kept: the room stands beside the night, since it is the caller's and is lent to be written.
-fn plan_night(night: &Night, room: &mut [u8]) -> u64
+fn plan_night(night: &Night, room: &mut [u8]) -> Counted
     requires one_each { length room.old ≡ length (passes_of night.now) }
-    ensures { BestPlanWorth night.now.station (passes_of night.now) room.new result }
+    ensures best { BestPlanWorth night.now.station (passes_of night.now) room.new result.worth }
+    ensures counted { 0 < result.visited }
 {
     let station = night.station();
     // Kept: an array, of which the front is used, since there is no heap.
     let turns = [station.turn; MAX_DISHES];
     let turns = &turns[..station.dishes as usize];
-    let problem = Summed {
-        gains: Scheduling::new(turns, night.passes()),
+    let rounded = Rounded {
+        turns,
+        passes: night.passes(),
     };
-    plan_each(&problem, room)
+    plan_each(rounded, room)
 }
 
 // Leaves the decisions that gain the most in the room, for dishes each of which takes its own time to turn, and answers how much that is.
-// Kept: `made` is as long as the most passes ask, and only its front is lent, since memory is fixed; and the room is to be written.
-fn plan_each(problem: &Summed<Scheduling>, room: &mut [u8]) -> u64
-    requires one_each { length room.old ≡ length problem.now.gains.passes.now }
-    ensures { BestGain (night_of problem.now.gains.turns.now problem.now.gains.passes.now) room.new result }
+// Kept: the room stands beside the night, to be written.
+fn plan_each(night: Rounded, room: &mut [u8]) -> Counted
+    requires one_each { length room.old ≡ length night.passes.now }
+    ensures best { BestGain (night_of night.entry.turns.now night.entry.passes.now) room.new result.worth }
+    ensures counted { 0 < result.visited }
 {
+    let prices = Auction::new(night).prices();
+    let problem = Summed {
+        gains: Priced::new(night, &prices),
+    };
     let mut made = [0; MOST_PASSES];
-    gain_most(problem, &mut made[..room.len()], room).unwrap()
+    let mut seen = [None; PLACES];
+    let gained = gain_most(&problem, &mut made[..room.len()], &mut seen, room);
+    Counted {
+        worth: gained.most.unwrap(),
+        visited: gained.visited,
+    }
 }

@@ -1,17 +1,14 @@
 // A night as a sequence of decisions: on each pass, in order of begin, which dish follows it, if any.
 ghost use Rattle.std.specs.Prelude.{◌≡◌, ◌≤◌, length};
-ghost use Rattle.planner.specs.declared.scheduling.TheConstants.{MOST_DISHES, MOST_PASSES};
-ghost use Rattle.planner.specs.Sums.{Small, AddsUp};
+ghost use Rattle.pruning.specs.declared.rounding.TheConstants.{MOST_DISHES, MOST_PASSES};
+ghost use Rattle.pruning.specs.Rounding.{Small};
+ghost use Rattle.planner.specs.Sums.{AddsUp};
 ghost use Rattle.planner.specs.Nights.{night};
 ghost use Rattle.planner.specs.Lawful.{night_moves, night_sums};
 
 use engine::{Decisions, Gains};
 use passes::Pass;
-
-// More than a night that is read has, so that wider problems fit.
-pub const MOST_DISHES: usize = 8;
-
-pub const MOST_PASSES: usize = 128;
+use pruning::{MOST_DISHES, MOST_PASSES};
 
 const ENTRIES: usize = MOST_PASSES + 1;
 

@@ -1,7 +1,24 @@
+use Rattle.engine.specs.Gaining.{GainAnswered}
+use Rattle.engine.proofs.Mapping.{gain_same}
+use Rattle.pruning.specs.Rounding.{rounded_night}
+use Rattle.planner.specs.Nights.{night}
 use Rattle.planner.proofs.Following.{some_gain}
+use Rattle.planner.proofs.Rounding.{rounding_up}
 use Rattle.planner.proofs.planning.plan_each.Goals as goal
+use Rattle.planner.proofs.planning.plan_each.Goals.{After-gain_most-gained}
+
+-- what is answered of the night over rounded states is so of the night
+answered : (c : After-gain_most-gained) → GainAnswered (night c.args.night.turns.now c.args.night.passes.now) c.args.room.now c.gain_most-gained.result.most c.gain_most-gained.new.room
+answered c =
+    let n = c.args.night in
+    let at_prices = c.new-2.ensures in
+    gain_same (night n.turns.now n.passes.now) (rounded_night n.turns.now n.passes.now) (rounding_up n.turns.now n.passes.now n.few_dishes n.in_time).runs
+    c.args.room.now c.gain_most-gained.new.room c.gain_most-gained.result.most (rw (at_prices.same_turns, at_prices.same_passes) at c.gain_most-gained.ensures.answered)
 
 pub unwrap-requires : goal.unwrap-requires
 unwrap-requires c =
-    let p = c.args.problem.now.gains in
-    some_gain p.turns.now p.passes.now c.args.room.now c.gain_most.new.room c.gain_most.result c.gain_most.ensures
+    let n = c.args.night in
+    some_gain n.turns.now n.passes.now c.args.room.now c.gain_most-gained.new.room c.gain_most-gained.result.most (answered (goal.at.unwrap-requires c).After-gain_most-gained)
+
+pub returns-clause-best : goal.returns-clause-best
+returns-clause-best c = rw c.unwrap.ensures at (answered (goal.at.returns-clause-best c).After-gain_most-gained)

@@ -1,7 +1,8 @@
-use Rattle.std.proofs.Common.{◌≤◌, sym, ap, ◌∙◌, arith}
+use Rattle.std.proofs.Common.{◌≤◌, length, replicate, sym, ap, ◌∙◌, arith}
 use Rattle.std.proofs.lemmas.List.{length-take-le, take-replicate}
 use Rattle.passes.specs.Nights.{passes_of}
-use Rattle.capacity.proofs.Timing.{few_dishes_from_checked}
+use Rattle.passes.proofs.Checking.{checked_says}
+use Rattle.capacity.proofs.Timing.{in_time_from_checked, few_dishes_from_checked}
 use Rattle.planner.specs.Dishes.{turns_of}
 use Rattle.planner.proofs.Stations.{planned_from_gain}
 use Rattle.planner.proofs.planning.plan_night.Goals as goal
@@ -16,11 +17,20 @@ slice_bounds-turns-end c = four_dishes (goal.at.slice_bounds-turns-end c).After-
 pub slice_bounds-turns-end-2 : goal.slice_bounds-turns-end-2
 slice_bounds-turns-end-2 c = sym (length-take-le c.station-station.result.dishes _ (four_dishes (goal.at.slice_bounds-turns-end-2 c).After-station-station))
 
-pub returns : goal.returns
-returns c =
+pub invariant_of-rounded : goal.invariant_of-rounded
+invariant_of-rounded c =
+    let n = c.args.night.now in
+    let few = four_dishes (goal.at.invariant_of-rounded c).After-station-station in
+    record {
+      few_dishes = omega (arith, few, length-take-le c.station-station.result.dishes (replicate 4 c.station-station.result.turn) few);
+      few_passes = omega (arith, (checked_says n.station (passes_of n) n.ok).few, ap length c.passes.ensures);
+      in_time = rw c.passes.ensures (in_time_from_checked n.station (passes_of n) n.ok);
+    }
+
+pub returns-clause-best : goal.returns-clause-best
+returns-clause-best c =
     let n = c.args.night.now in
     let s = c.station-station.result in
-    let few = four_dishes (goal.at.returns c).After-station-station in
-    let same_turns = c.new.ensures.same_turns ∙ take-replicate s.dishes 4 s.turn few ∙ ap turns_of c.station-station.ensures in
-    let same_passes = c.new.ensures.same_passes ∙ c.passes.ensures in
-    planned_from_gain n.station (passes_of n) n.ok c.plan_each.new.room c.plan_each.result (rw (same_turns, same_passes) at c.plan_each.ensures)
+    let few = four_dishes (goal.at.returns-clause-best c).After-station-station in
+    let same_turns = take-replicate s.dishes 4 s.turn few ∙ ap turns_of c.station-station.ensures in
+    planned_from_gain n.station (passes_of n) n.ok c.plan_each.new.room c.plan_each.result.worth (rw (same_turns, c.passes.ensures) at c.plan_each.ensures.best)
