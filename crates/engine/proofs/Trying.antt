@@ -1,5 +1,5 @@
 -- The best so far while choices are tried. Assumes nothing.
-use Rattle.std.proofs.Common.{◌≡◌, ℕ, ◌+◌, ◌-◌, ◌<◌, ◌≤◌, true, false, List, set, IfSome, Some, None, Option, sym, refl, ◌∙◌, ⊎_elim, arith, below_more}
+use Rattle.std.proofs.Common.{◌≡◌, ℕ, ◌+◌, ◌-◌, ◌<◌, ◌≤◌, true, false, List, length, get_or, set, IfSome, Some, None, Option, sym, refl, ◌∙◌, ⊎_elim, arith, below_more}
 use Rattle.std.proofs.lemmas.List.Elements.{All-set}
 use Rattle.std.proofs.lemmas.Bool.Decides.{nat_tests}
 use Rattle.std.proofs.lemmas.Bool.{both_ways, cases_Bool}
@@ -75,6 +75,10 @@ module _ {S : Type 0} (m : Model S) where
       let turn = choice_at first next.choice in
       let back = choice_twice first next.choice in
       tried turn (choice_offered first next.choice (m.moves.choices i) offered is_choice) next.next (rw back next.step) next.rest e next.way
+
+  -- what stands at a place of the table
+  pub known_at : (table : List (Option (Seen S))) (k : ℕ) (d : Option (Seen S)) (x : Seen S) (best : Option S) → k < length table → get_or table k d ≡ Some x → Known m table best → Passed m best x
+  known_at table k d x best l is known = rw is at (known k d l)
 
   -- one state more in the table
   pub known_more : (table table₁ : List (Option (Seen S))) (k : ℕ) (x : Seen S) (best : Option S) → table₁ ≡ set table k (Some x) → Passed m best x → Known m table best → Known m table₁ best

@@ -91,9 +91,7 @@ impl<P: Problem> Exploring<'_, P> {
         if places == 0 {
             return false;
         }
-        // Kept: what stands there is read first, since a match on the place itself gets no proof.
-        let entry = self.seen[place(self.problem.slot(stage, state), places)];
-        let Some(seen) = entry else {
+        let Some(seen) = self.seen[place(self.problem.slot(stage, state), places)] else {
             return false;
         };
         seen.stage == stage && self.problem.covers(stage, seen.state, state)
