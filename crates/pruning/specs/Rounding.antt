@@ -5,7 +5,8 @@ use Rattle.engine.specs.Gaining.{Gaining}
 use Rattle.passes.specs.declared.model.Pass.{Pass}
 use Rattle.passes.specs.Follow.{may}
 use Rattle.passes.specs.Rule.{nth}
-use Rattle.pruning.specs.declared.rounding.TheConstants.{MOST_DISHES}
+use Rattle.capacity.specs.Order.{InTime}
+use Rattle.pruning.specs.declared.rounding.TheConstants.{MOST_DISHES, MOST_PASSES}
 use Rattle.pruning.specs.declared.rounding.NextPasses.{NextPasses}
 
 -- dish d is there and may follow the pass, which begins in the second x or later
@@ -56,6 +57,12 @@ NoLater a b = (d : ℕ) → d < MOST_DISHES → slice_index a.next d ≤ slice_i
 -- no pass is worth more than 32 bits hold
 abbrev pub Small : List Pass → Type 0
 Small ps = (i : ℕ) → i < length ps → (nth ps i).worth < 2 ^ 32
+
+-- so many dishes and passes as there can be, and passes in order of time
+pub record FitsNight (turns : List ℕ) (ps : List Pass) : Type 0 where
+  pub few_dishes : length turns ≤ MOST_DISHES
+  pub few_passes : length ps ≤ MOST_PASSES
+  pub in_time : InTime ps
 
 -- the night: a decision on each pass, in their order, by which the passes that are followed are gained
 abbrev pub rounded_night : (turns : List ℕ) → List Pass → Gaining NextPasses

@@ -5,6 +5,8 @@ mod auction;
 mod laws;
 mod prices;
 mod rounding;
+#[cfg(test)]
+mod tests;
 
 pub use auction::Auction;
 pub use laws::prices_bound_stands;

@@ -1,10 +1,10 @@
 // States of a night, rounded up: of each dish, in place of the second from which it is free, the next pass that it may still follow.
-ghost use Rattle.std.specs.Prelude.{◌≡◌, ◌+◌, ◌<◌, ◌≤◌, ◌&&◌, length, nat_lt, nat_le, slice_index, ◌^◌, MatchBool};
+ghost use Rattle.std.specs.Prelude.{◌≡◌, ◌+◌, ◌<◌, ◌≤◌, ◌&&◌, length, nat_lt, nat_le, slice_index, ◌^◌, MatchBool, MatchOption};
 ghost use Rattle.passes.specs.Follow.{may};
 ghost use Rattle.passes.specs.Rule.{nth};
 ghost use Rattle.capacity.specs.Order.{InTime, InTime-prop};
 ghost use Rattle.pruning.specs.declared.rounding.TheConstants.{MOST_DISHES, MOST_PASSES};
-ghost use Rattle.pruning.specs.Rounding.{suits, next_pass, allowed, next_then, go_on, NoLater, rounded_night};
+ghost use Rattle.pruning.specs.Rounding.{suits, next_pass, allowed, next_then, go_on, NoLater, FitsNight, rounded_night};
 
 use passes::Pass;
 
@@ -59,6 +59,32 @@ pub struct Rounded<'a> {
     pub ghost few_dishes: { length turns.now ≤ MOST_DISHES },
     pub ghost few_passes: { length passes.now ≤ MOST_PASSES },
     pub ghost in_time: { InTime passes.now } by { InTime-prop passes.now },
+}
+
+impl<'a> Rounded<'a> {
+    // The night of these dishes and passes, unless there are too many of them or the passes aren't in order of time.
+    pub fn new(turns: &'a [u32], passes: &'a [Pass]) -> Option<Rounded<'a>>
+        ensures { MatchOption result (FitsNight turns.now passes.now → ⊥) (λ r. (r.turns.now ≡ turns.now) × (r.passes.now ≡ passes.now)) }
+    {
+        if turns.len() > MOST_DISHES || passes.len() > MOST_PASSES || !are_in_time(passes) {
+            return None;
+        }
+        Some(Rounded { turns, passes })
+    }
+}
+
+// Whether each pass ends after it begins, and none begins before one that stands before it.
+// Kept: two neighbours at a time, by index.
+fn are_in_time(passes: &[Pass]) -> bool
+    ensures { MatchBool result (InTime passes.now) (InTime passes.now → ⊥) }
+{
+    for i in 0..passes.len() {
+        let pass = passes[i];
+        if pass.from >= pass.to || (i > 0 && pass.from < passes[i - 1].from) {
+            return false;
+        }
+    }
+    true
 }
 
 impl Rounded<'_> {

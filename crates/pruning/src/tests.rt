@@ -1,0 +1,83 @@
+// Wider nights than a station's, planned at prices.
+use super::*;
+use engine::{Gained, Summed, gain_most};
+use passes::Pass;
+use std::array;
+
+// Eight passes at a time, of ten seconds each and ten seconds apart, which all eight dishes may follow.
+fn by_eights<const N: usize>() -> [Pass; N]
+    requires { N ≤ 128 }
+{
+    array::from_fn(|i| {
+        let from = 20 * (i as u32 / 8);
+        Pass {
+            from,
+            to: from + 10,
+            worth: u32::MAX,
+            marks: 255,
+        }
+    })
+}
+
+// What is gained at most by dishes that take so long to turn, and how many states are visited for it.
+fn gained(turns: &[u32], passes: &[Pass]) -> Option<Gained> {
+    let night = Rounded::new(turns, passes)?;
+    let prices = Auction::new(night).prices();
+    let problem = Summed {
+        gains: Priced::new(night, &prices),
+    };
+    let mut made = [0; MOST_PASSES];
+    let mut room = [9; MOST_PASSES];
+    let count = passes.len();
+    Some(gain_most(
+        &problem,
+        &mut made[..count],
+        &mut [None; 256],
+        &mut room[..count],
+    ))
+}
+
+#[test]
+fn eight_dishes(rt: HostRuntime) {
+    let passes = by_eights::<128>();
+    // all but the last have turned when the next eight begin
+    assert_eq!(rt;
+        gained(&[0, 10, 2, 3, 4, 5, 6, 11], &passes),
+        Some(Gained {
+            most: Some(120 * u32::MAX as u64),
+            visited: 0
+        })
+    );
+    assert_eq!(rt;
+        gained(&[10; 8], &passes),
+        Some(Gained {
+            most: Some(128 * u32::MAX as u64),
+            visited: 0
+        })
+    );
+    // no dish, no pass
+    assert_eq!(rt;
+        gained(&[], &passes),
+        Some(Gained {
+            most: Some(0),
+            visited: 0
+        })
+    );
+    assert_eq!(rt;
+        gained(&[5; 8], &[]),
+        Some(Gained {
+            most: Some(0),
+            visited: 0
+        })
+    );
+}
+
+#[test]
+fn no_night(rt: HostRuntime) {
+    let mut passes = by_eights::<9>();
+    assert!(rt; gained(&[0; 9], &passes).is_none());
+    passes[8].from = 0;
+    assert!(rt; gained(&[0; 8], &passes).is_some());
+    passes[0].from = 1;
+    assert!(rt; gained(&[0; 8], &passes).is_none());
+}
