@@ -3,3 +3,4 @@ pub mod Bounding
 pub mod Tables
 pub mod Covering
 pub mod Adding
+pub mod Whole

@@ -8,10 +8,10 @@ use crate::prices::{full_price, less_prices};
 use crate::rounding::{MOST_PASSES, Rounded};
 use passes::Pass;
 
-const ROUNDS: usize = 80;
+const ROUNDS: usize = 120;
 
 // Prices move by so many parts of what passes are worth.
-const PARTS: u64 = 4096;
+const PARTS: u64 = 1 << 16;
 
 const FIRST_STEP: u64 = PARTS / 4;
 

@@ -5,6 +5,7 @@ mod auction;
 mod laws;
 mod prices;
 mod rounding;
+mod units;
 #[cfg(test)]
 mod tests;
 

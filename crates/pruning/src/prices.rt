@@ -6,10 +6,12 @@ ghost use Rattle.capacity.specs.Order.{InTime};
 ghost use Rattle.pruning.specs.declared.rounding.TheConstants.{MOST_DISHES, MOST_PASSES};
 ghost use Rattle.pruning.specs.declared.prices.TheConstants.{SCALE};
 ghost use Rattle.pruning.specs.Rounding.{Small, rounded_night};
+ghost use Rattle.pruning.specs.Units.{WholeIn};
 ghost use Rattle.pruning.specs.Lawful.{rounded_moves, rounded_sums};
 ghost use Rattle.pruning.specs.Prices.{station_of_dish, NoneAbove, Moderate, Tables, less_prices, LeftFalls, TablesFall, FallsPay, LeftLow, TablesLow};
 
 use crate::rounding::{MOST_DISHES, MOST_PASSES, NextPasses, Rounded};
+use crate::units::unit_of;
 use capacity::OneDish;
 use engine::{Decisions, Gains};
 use passes::{Pass, Station};
@@ -28,6 +30,10 @@ pub struct Priced<'a> {
     left: [u64; ENTRIES],
     // What each dish alone can gain from each pass on, once prices are paid.
     tables: [[u64; ENTRIES]; MOST_DISHES],
+    // What every plan is worth is a multiple of this.
+    unit: u64,
+    ghost some_unit: { 0 < unit },
+    ghost whole: { WholeIn unit night.passes.now },
     ghost small: { Small night.passes.now },
     ghost left_low: { LeftLow night.passes.now left },
     ghost tables_low: { TablesLow night.turns.now night.passes.now tables },
@@ -147,6 +153,7 @@ impl<'a> Priced<'a> {
             night,
             left: add_up(fair),
             tables: night.tables_of(&gains[..count]),
+            unit: unit_of(night.passes),
         }
     }
 }
@@ -192,13 +199,14 @@ impl Gains for Priced<'_> {
         }
     }
 
-    // The prices of the passes that are left, and what each dish alone can gain from its next pass on, once prices are paid.
+    // The prices of the passes that are left, and what each dish alone can gain from its next pass on, once prices are paid: the greatest multiple of the
+    // unit that isn't above that.
     fn bound(&self, stage: usize, state: NextPasses) -> u64 {
         let mut bound = self.left[stage];
         for dish in 0..self.night.turns.len() {
             bound += self.tables[dish][state.next_of(dish)];
         }
-        bound / SCALE
+        bound / SCALE / self.unit * self.unit
     }
 
     // Each dish is free no later.

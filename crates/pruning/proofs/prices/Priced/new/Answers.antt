@@ -33,6 +33,8 @@ invariant_of-result c =
     let tables = c.tables_of.result in
     let right = rw c.less_prices-gains.ensures.less at c.tables_of.ensures in
     record {
+      some_unit = c.unit_of.ensures.positive;
+      whole = c.unit_of.ensures.whole;
       small = small;
       left_low = left_low ps small prices left few fair sums;
       tables_low = tables_low ps small turns prices tables few right;
