@@ -1,5 +1,5 @@
 // Small problems: one of which some sizes have no run at all, and one of which most is left out.
-ghost use Rattle.std.specs.Prelude.{◌+◌, ◌%◌, ◌<◌, cond, ◌&&◌, Some, None, nat_le, nat_lt};
+ghost use Rattle.std.specs.Prelude.{◌+◌, ◌-◌, ◌%◌, ◌<◌, cond, ◌&&◌, Some, None, nat_le, nat_lt};
 ghost use Rattle.std.proofs.Common.{arith};
 ghost use Rattle.std.proofs.lemmas.Bool.Decides.{nat_tests};
 
@@ -58,7 +58,7 @@ impl Problem for Rising {
     }
 }
 
-// Six stages, worth 1, 2 and 3 by turns, of which some are chosen, no two next to one another. The state is 1 after one that was.
+// Six stages, worth 3, 2 and 1 by turns, of which some are chosen, no two next to one another. The state is 1 after one that was.
 #[derive(Drop)]
 struct Apart;
 
@@ -97,7 +97,7 @@ impl Decisions for Apart {
 }
 
 impl Gains for Apart {
-    ghost gain = { λ p i c s. cond (nat_lt 0 c) (i % 3 + 1) 0 };
+    ghost gain = { λ p i c s. cond (nat_lt 0 c) (3 - i % 3) 0 };
 
     ghost most = { λ p. 3 };
 
@@ -107,7 +107,7 @@ impl Gains for Apart {
     } };
 
     fn gain(&self, stage: usize, choice: u8, _state: u8) -> u64 {
-        if choice > 0 { stage as u64 % 3 + 1 } else { 0 }
+        if choice > 0 { 3 - stage as u64 % 3 } else { 0 }
     }
 
     fn bound(&self, stage: usize, _state: u8) -> u64 {
@@ -157,9 +157,9 @@ fn the_lowest_rising_numbers(rt: HostRuntime) {
 #[test]
 fn the_most_without_neighbours(rt: HostRuntime) {
     let problem = Summed { gains: Apart };
-    let mut seen = [None; 8];
-    // without the bound 53 states are visited, and without the first choice 39; the last table holds what the search before it left there
-    for (places, visited) in [(0, 23), (8, 16), (8, 16)] {
+    let mut seen = [None; 4];
+    // with no table, 53 states are visited without the bound, and 44 without the first choice; the last table holds what the search before it left there
+    for (places, visited) in [(0, 30), (4, 17), (4, 17)] {
         let mut made = [7; 6];
         let mut room = [9; 6];
         assert_eq!(rt;
@@ -169,6 +169,6 @@ fn the_most_without_neighbours(rt: HostRuntime) {
                 visited
             }
         );
-        assert_eq!(rt; room, [1, 0, 1, 0, 0, 1]);
+        assert_eq!(rt; room, [1, 0, 0, 1, 0, 1]);
     }
 }
