@@ -1,5 +1,5 @@
 // Decisions that gain something: the run that gains the most.
-ghost use Rattle.std.specs.Prelude.{◌≡◌, ℕ, ◌-◌, ◌<◌, ◌≤◌, true, length, is_some, None};
+ghost use Rattle.std.specs.Prelude.{◌≡◌, ℕ, ◌-◌, ◌<◌, ◌≤◌, true, length, is_some, None, MatchOption};
 ghost use Rattle.engine.specs.Gaining.{Gain, gaining, SumLaws, Bound, KeepsUp, GainAnswered, tally_moves, tally_order};
 ghost use Rattle.engine.specs.Summing.{tally_move_laws, tally_order_laws};
 
@@ -69,25 +69,22 @@ pub struct Summed<G> {
 }
 
 impl<G: Gains> Summed<G> {
-    // What a choice gains, and the bound of where it leads. One that isn't allowed promises nothing.
-    fn promise(&self, stage: usize, choice: u8, state: G::State) -> u64
+    // What a choice that is allowed gains, and the bound of where it leads.
+    fn promise(&self, stage: usize, choice: u8, state: G::State) -> Option<u64>
         requires within { stage < (G.moves self.now.gains).stages }
         requires offered { choice < (G.moves self.now.gains).choices stage }
         requires fine { (G.moves self.now.gains).fine stage state }
-        ensures refused { (G.moves self.now.gains).step stage choice state ≡ None → result ≡ 0 }
-        ensures allowed { is_some ((G.moves self.now.gains).step stage choice state) ≡ true → G.gain self.now.gains stage choice state ≤ result }
+        ensures { MatchOption result ((G.moves self.now.gains).step stage choice state ≡ None) (λ n. (is_some ((G.moves self.now.gains).step stage choice state) ≡ true) × (G.gain self.now.gains stage choice state ≤ n)) }
     {
-        let Some(next) = self.gains.step(stage, choice, state) else {
-            return 0;
-        };
+        let next = self.gains.step(stage, choice, state)?;
         let gain = self.gains.gain(stage, choice, state);
         if self.gains.stages() == stage + 1 {
-            return gain;
+            return Some(gain);
         }
-        gain.saturating_add(self.gains.bound(stage + 1, next))
+        Some(gain.saturating_add(self.gains.bound(stage + 1, next)))
     }
 
-    // The choice that promises most, or 0 if none promises anything.
+    // The choice that promises most, the last of several, or 0 if none is allowed.
     fn most_promising(&self, stage: usize, state: G::State) -> u8
         requires within { stage < (G.moves self.now.gains).stages }
         requires fine { (G.moves self.now.gains).fine stage state }
@@ -97,8 +94,9 @@ impl<G: Gains> Summed<G> {
         let mut most = 0;
         // Kept: no list is gone through here, since a choice is a number.
         for choice in 0..self.gains.choices(stage) {
-            let promise = self.promise(stage, choice, state);
-            if promise > most {
+            if let Some(promise) = self.promise(stage, choice, state)
+                && promise >= most
+            {
                 first = choice;
                 most = promise;
             }

@@ -1,8 +1,10 @@
 -- The table of what the prices of the passes from each on come to, and what is gained once prices are paid. Assumes nothing.
-use Rattle.std.proofs.Common.{◌≡◌, ℕ, ◌+◌, ◌-◌, ◌*◌, ◌^◌, ◌<◌, ◌≤◌, List, All, length, get_or, drop, set, replicate, sum, map, ap, sym, ◌∙◌, ⊎_elim, arith}
+use Rattle.std.proofs.Common.{◌≡◌, ℕ, ◌+◌, ◌-◌, ◌*◌, ◌^◌, ◌<◌, ◌≤◌, List, length, get_or, drop, set, replicate, sum, ap, ◌∙◌, ⊎_elim, arith}
 use Rattle.std.proofs.lemmas.List.{drop_all, get_or-replicate, get_or-set_other, get_or-set_same}
 use Rattle.std.proofs.lemmas.List.Sums.{sum_by-drop_more}
 use Rattle.std.proofs.lemmas.Bool.{cases_eq}
+use Rattle.passes.specs.declared.model.Pass.{Pass}
+use Rattle.pruning.specs.Prices.{NoneAbove}
 
 -- from entry i on, entry k of the table is what the prices from the one of pass k on come to
 abbrev pub AddsUp : (prices : List ℕ) → ℕ → (table : List ℕ) → Type 0
@@ -28,3 +30,7 @@ adds_up_more prices table i n within room is sums k low high =
 
 pub nothing_low : (k n : ℕ) → k < n → get_or (replicate n 0) k 0 ≤ (k - k) * 2 ^ 42
 nothing_low k n room = rw (get_or-replicate {A = ℕ} n k 0 0 room) (omega arith)
+
+-- no price is above anything while there is none
+pub no_prices : (ps : List Pass) (n m : ℕ) → length ps ≤ m → NoneAbove n ps (replicate m 0)
+no_prices ps n m few i l = rw (get_or-replicate {A = ℕ} m i 0 0 (omega arith)) (omega arith)

@@ -82,7 +82,7 @@ module _ (turns : List ℕ) (ps : List Pass) (few : length turns ≤ MOST_DISHES
         let gain : (rounded_night turns ps).gain i c s ≡ (nth ps i).worth = grind (arith, nat_tests) in
         let there : c ≤ length turns = grind (arith, nat_tests) in
         rw gain (together_less then now (length turns) (c - 1) (n * (nth ps i).worth + left (i + 1)) (left i) (omega arith) each
-            (omega (arith, is (c - 1) (omega arith), less_one (c - 1) (omega arith) (omega arith)))))
+        (omega (arith, is (c - 1) (omega arith), less_one (c - 1) (omega arith) (omega arith)))))
         (cases_eq c 0)
 
   pub bounded : (cs : List ℕ) (i : ℕ) (s e : NextPasses) → Upcoming turns ps i s → Way (rounded_night turns ps).moves i s cs e → n * gained (rounded_night turns ps).moves.step (rounded_night turns ps).gain i s cs ≤ left i + ahead s

@@ -47,16 +47,16 @@ module _ (turns : List ℕ) (ps : List Pass) (few : length turns ≤ MOST_DISHES
     still_sooner : NoLater (each_dish (next_then turns ps i c a)) (each_dish (next_then turns ps i c b))
     still_sooner d l =
         let each : next_then turns ps i c a d ≤ next_then turns ps i c b d =
-            ⊎_elim
-            (λ same. omega (arith, then_followed turns ps i c a d same, then_followed turns ps i c b d same))
-            (λ other. ⊎_elim
-                (λ here. omega (arith, then_waits turns ps i c a d other (next_too d l here), then_waits turns ps i c b d other here))
-                (λ later. ⊎_elim
-                    (λ here. omega (arith, then_waits turns ps i c a d other here, then_kept turns ps i c b d other later, waits_no_longer d l later))
-                    (λ later₁. omega (arith, then_kept turns ps i c a d other later₁, then_kept turns ps i c b d other later, sooner d l))
-                    (cases_eq (slice_index a.next d) i))
-                (cases_eq (slice_index b.next d) i))
-            (cases_eq c (d + 1)) in
+        ⊎_elim
+        (λ same. omega (arith, then_followed turns ps i c a d same, then_followed turns ps i c b d same))
+        (λ other. ⊎_elim
+        (λ here. omega (arith, then_waits turns ps i c a d other (next_too d l here), then_waits turns ps i c b d other here))
+        (λ later. ⊎_elim
+        (λ here. omega (arith, then_waits turns ps i c a d other here, then_kept turns ps i c b d other later, waits_no_longer d l later))
+        (λ later₁. omega (arith, then_kept turns ps i c a d other later₁, then_kept turns ps i c b d other later, sooner d l))
+        (cases_eq (slice_index a.next d) i))
+        (cases_eq (slice_index b.next d) i))
+        (cases_eq c (d + 1)) in
         omega (arith, each, each_dish_at (next_then turns ps i c a) d l, each_dish_at (next_then turns ps i c b) d l)
 
   -- whatever choices lead on from b lead on from a, and gain as much

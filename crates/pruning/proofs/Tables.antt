@@ -60,10 +60,10 @@ module _ (turns : List ℕ) (ps : List Pass) (n : ℕ) (prices : List ℕ) (time
         let next = next_pass turns ps d (k + 1) x in
         let within = next_within turns ps d x (k + 1) (omega arith) in
         let later : first.0 ≤ next =
-            ⊎_elim
-            (λ before. let suits_it = next_suits turns ps d x (k + 1) (omega arith) (omega (arith, first.1.within)) in let early = first.1.before next before in absurd (grind (arith, nat_tests)))
-            (λ not. not)
-            (cases_lt next first.0) in
+        ⊎_elim
+        (λ before. let suits_it = next_suits turns ps d x (k + 1) (omega arith) (omega (arith, first.1.within)) in let early = first.1.before next before in absurd (grind (arith, nat_tests)))
+        (λ not. not)
+        (cases_lt next first.0) in
         let low = falls_to (length ps) (λ j. slice_index table j) table_falls first.0 next later within in
         let most = entry_able s ps time k first.0 h first.1 d (less_prices n ps prices) (one_gain_each ps n prices) (grind (arith, nat_tests)) _ _ (entry_of (k + 1) (omega arith)) (entry_of first.0 first.1.within) in
         let same = one_most s d _ _ _ _ (entry_of k (omega arith)) most in

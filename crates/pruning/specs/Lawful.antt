@@ -40,9 +40,9 @@ module _ (turns : List ℕ) (ps : List Pass) (i c : ℕ) (s : NextPasses) (d : �
       ⊎_elim
       (λ same. subst P (sym (then_followed same)) (followed same))
       (λ other. ⊎_elim
-          (λ here. subst P (sym (then_waits other here)) (waits other here))
-          (λ later. subst P (sym (then_kept other later)) (kept other later))
-          (cases_eq (slice_index s.next d) i))
+      (λ here. subst P (sym (then_waits other here)) (waits other here))
+      (λ later. subst P (sym (then_kept other later)) (kept other later))
+      (cases_eq (slice_index s.next d) i))
       (cases_eq c (d + 1))
 
   -- it can be the next one there

@@ -28,8 +28,8 @@ module _ (turns : List ℕ) (ps : List Pass) (d x k : ℕ) (start : k ≤ length
       let here : k + (m - k) ≡ m = omega arith in
       ap (λ n. k + n)
       (position_or_len_is (suits turns d x) (drop k ps) (m - k) no_pass (omega (arith, length-drop k ps))
-          (λ j l. rw (behind j) (none (k + j) (omega arith) (omega arith)))
-          (λ l. rw (behind (m - k), here) (suited (omega (arith, length-drop k ps)))))
+      (λ j l. rw (behind j) (none (k + j) (omega arith) (omega arith)))
+      (λ l. rw (behind (m - k), here) (suited (omega (arith, length-drop k ps)))))
       ∙ here
 
   -- it lies among the passes, or behind all

@@ -15,8 +15,9 @@ const PARTS: u64 = 1 << 16;
 
 const FIRST_STEP: u64 = PARTS / 4;
 
-// In each round, each dish in turn asks for the passes by which it alone gains the most at the prices. Then the price of each pass that it asks for
-// rises, and that of each other pass falls, so that a pass for which one dish asks in a round keeps its price. Steps become shorter and shorter.
+// At first nothing has a price. In each round, each dish in turn asks for the passes by which it alone gains the most at the prices. Then the price of
+// each pass that it asks for rises, and that of each other pass falls, so that a pass for which one dish asks in a round keeps its price. Steps become
+// shorter and shorter.
 #[derive(Clone, Copy)]
 pub struct Auction<'a> {
     night: Rounded<'a>,
@@ -40,7 +41,7 @@ impl Auction<'_> {
     pub fn prices(&self) -> [u64; MOST_PASSES]
         ensures { NoneAbove SCALE self.now.night.passes.now result }
     {
-        let mut prices = half_prices(self.night.passes);
+        let mut prices = [0; MOST_PASSES];
         let mut step = FIRST_STEP;
         for round in 0..ROUNDS {
             prices = self.after_round(round, step, &prices);
@@ -50,7 +51,12 @@ impl Auction<'_> {
     }
 
     // The prices after a round, in which each dish asks once. Another begins each time.
-    fn after_round(&self, round: usize, step: u64, prices: &[u64; MOST_PASSES]) -> [u64; MOST_PASSES]
+    fn after_round(
+        &self,
+        round: usize,
+        step: u64,
+        prices: &[u64; MOST_PASSES],
+    ) -> [u64; MOST_PASSES]
         requires before { NoneAbove SCALE self.now.night.passes.now prices.now }
         ensures { NoneAbove SCALE self.now.night.passes.now result }
     {
@@ -64,7 +70,12 @@ impl Auction<'_> {
     }
 
     // The prices after a dish has asked for passes.
-    fn after_asking(&self, dish: usize, step: u64, prices: &[u64; MOST_PASSES]) -> [u64; MOST_PASSES]
+    fn after_asking(
+        &self,
+        dish: usize,
+        step: u64,
+        prices: &[u64; MOST_PASSES],
+    ) -> [u64; MOST_PASSES]
         requires there { dish < length self.now.night.turns.now }
         requires before { NoneAbove SCALE self.now.night.passes.now prices.now }
         ensures { NoneAbove SCALE self.now.night.passes.now result }
@@ -75,7 +86,9 @@ impl Auction<'_> {
         let table = self.night.table_of(dish, &gains[..count]);
         let mut asked = [0; MOST_PASSES];
         let asked = &mut asked[..count];
-        self.night.alone(dish).follow_table(&table[..count + 1], asked);
+        self.night
+            .alone(dish)
+            .follow_table(&table[..count + 1], asked);
         self.moved(asked, step, prices)
     }
 
@@ -119,16 +132,4 @@ fn mean_price(passes: &[Pass]) -> u64
         total += full_price(pass);
     }
     total / (passes.len() as u64).max(1)
-}
-
-// Half of what each pass is worth, with which the auction begins.
-fn half_prices(passes: &[Pass]) -> [u64; MOST_PASSES]
-    requires few_passes { length passes.now ≤ MOST_PASSES }
-    ensures { NoneAbove SCALE passes.now result }
-{
-    let mut prices = [0; MOST_PASSES];
-    for (i, pass) in passes.iter().enumerate() {
-        prices[i] = full_price(pass) / 2;
-    }
-    prices
 }

@@ -5,9 +5,9 @@ mod auction;
 mod laws;
 mod prices;
 mod rounding;
-mod units;
 #[cfg(test)]
 mod tests;
+mod units;
 
 pub use auction::Auction;
 pub use laws::prices_bound_stands;

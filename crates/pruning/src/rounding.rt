@@ -92,9 +92,7 @@ impl Rounded<'_> {
     fn suits(&self, dish: usize, second: u64, pass: &Pass) -> bool
         ensures { result ≡ suits self.now.turns.now dish second pass.now }
     {
-        dish < self.turns.len()
-            && pass.may_be_followed_by(dish as u8)
-            && second <= pass.from as u64
+        dish < self.turns.len() && pass.may_be_followed_by(dish as u8) && second <= pass.from as u64
     }
 
     // The first pass from a place in the list on that suits the dish, or the number of passes if none does.

@@ -1,4 +1,6 @@
 // Wider nights than a station's, planned at prices.
+ghost use Rattle.std.specs.Prelude.{◌≤◌};
+
 use super::*;
 use engine::{Gained, Summed, gain_most};
 use passes::Pass;
@@ -40,36 +42,26 @@ fn gained(turns: &[u32], passes: &[Pass]) -> Option<Gained> {
 #[test]
 fn eight_dishes(rt: HostRuntime) {
     let passes = by_eights::<128>();
-    // all but the last have turned when the next eight begin
+    for (turns, followed, visited) in [
+        // all have turned when the next eight begin
+        ([0, 10, 2, 3, 4, 5, 6, 7], 128, 130),
+        // all but the last, which follows every other one
+        ([0, 10, 2, 3, 4, 5, 6, 11], 120, 129),
+        ([11; 8], 64, 129),
+    ] {
+        let most = Some(followed * u32::MAX as u64);
+        assert_eq!(rt; gained(&turns, &passes), Some(Gained { most, visited }));
+    }
+}
+
+#[test]
+fn nothing_to_gain(rt: HostRuntime) {
+    let most = Some(0);
     assert_eq!(rt;
-        gained(&[0, 10, 2, 3, 4, 5, 6, 11], &passes),
-        Some(Gained {
-            most: Some(120 * u32::MAX as u64),
-            visited: 0
-        })
+        gained(&[], &by_eights::<9>()),
+        Some(Gained { most, visited: 10 })
     );
-    assert_eq!(rt;
-        gained(&[10; 8], &passes),
-        Some(Gained {
-            most: Some(128 * u32::MAX as u64),
-            visited: 0
-        })
-    );
-    // no dish, no pass
-    assert_eq!(rt;
-        gained(&[], &passes),
-        Some(Gained {
-            most: Some(0),
-            visited: 0
-        })
-    );
-    assert_eq!(rt;
-        gained(&[5; 8], &[]),
-        Some(Gained {
-            most: Some(0),
-            visited: 0
-        })
-    );
+    assert_eq!(rt; gained(&[5; 8], &[]), Some(Gained { most, visited: 1 }));
 }
 
 #[test]
