@@ -99,33 +99,33 @@ module _ (turns : List ℕ) (ps : List Pass) (time : InTime ps) (i : ℕ) (withi
         let decided : decide turns (nth ps i) c s ≡ Some s = grind (arith, nat_tests) in
         rw (may, decided) (ap {B = Option NextPasses} Some (idle none)))
         (λ some. ⊎_elim
-            (λ can.
-            let there : c ≤ length turns = grind (arith, nat_tests) in
-            let here = now_of (c - 1) (omega arith) ∙ is_here (c - 1) (slice_index s.seconds (c - 1)) (sym (can_is some) ∙ can) in
-            let may : allowed turns i c now ≡ true = grind (arith, nat_tests) in
-            let decided : decide turns (nth ps i) c s ≡ Some (after_following turns (nth ps i) c s) = grind (arith, nat_tests) in
-            rw (may, decided) (ap {B = Option NextPasses} Some (followed some there)))
-            (λ cannot.
-            let may : allowed turns i c now ≡ false =
-                ⊎_elim
-                (λ past. grind (arith, nat_tests))
-                (λ there.
-                let behind = now_of (c - 1) (omega arith) ∙ is_behind (c - 1) (slice_index s.seconds (c - 1)) (sym (can_is some) ∙ cannot) in
-                let later : slice_index now.next (c - 1) ≢ i = λ here. omega (arith, here, behind) in
-                grind (arith, nat_tests))
-                (cases_lt (length turns) c) in
-            let decided : decide turns (nth ps i) c s ≡ None = grind (arith, nat_tests) in
-            rw (may, decided) refl)
-            (cases_Bool (can_follow turns (nth ps i) c s)))
+        (λ can.
+        let there : c ≤ length turns = grind (arith, nat_tests) in
+        let here = now_of (c - 1) (omega arith) ∙ is_here (c - 1) (slice_index s.seconds (c - 1)) (sym (can_is some) ∙ can) in
+        let may : allowed turns i c now ≡ true = grind (arith, nat_tests) in
+        let decided : decide turns (nth ps i) c s ≡ Some (after_following turns (nth ps i) c s) = grind (arith, nat_tests) in
+        rw (may, decided) (ap {B = Option NextPasses} Some (followed some there)))
+        (λ cannot.
+        let may : allowed turns i c now ≡ false =
+        ⊎_elim
+        (λ past. grind (arith, nat_tests))
+        (λ there.
+        let behind = now_of (c - 1) (omega arith) ∙ is_behind (c - 1) (slice_index s.seconds (c - 1)) (sym (can_is some) ∙ cannot) in
+        let later : slice_index now.next (c - 1) ≢ i = λ here. omega (arith, here, behind) in
+        grind (arith, nat_tests))
+        (cases_lt (length turns) c) in
+        let decided : decide turns (nth ps i) c s ≡ None = grind (arith, nat_tests) in
+        rw (may, decided) refl)
+        (cases_Bool (can_follow turns (nth ps i) c s)))
         (cases_eq c 0)
 
 pub rounding_up : RoundingUp
 rounding_up turns ps few time =
     let zeros : (d : ℕ) → slice_index (replicate MOST_DISHES 0) d ≡ 0 = λ d. ⊎_elim (λ within. get_or-replicate MOST_DISHES d 0 0 within) (λ past. get_or_past (replicate MOST_DISHES 0) d 0 past) (cases_lt d MOST_DISHES) in
     let maps : Mapping (night turns ps) (rounded_night turns ps) (rounded_up turns ps) = record {
-          stages = refl;
-          start = each_same _ _ (λ d l. ap (next_pass turns ps d 0) (sym (zeros d)));
-          step = λ i c s within fine. step_same turns ps time i within few c s fine;
-          gain = λ i c s within fine. refl;
-        } in
+      stages = refl;
+      start = each_same _ _ (λ d l. ap (next_pass turns ps d 0) (sym (zeros d)));
+      step = λ i c s within fine. step_same turns ps time i within few c s fine;
+      gain = λ i c s within fine. refl;
+    } in
     record { states = maps; runs = same_runs (night turns ps) (rounded_night turns ps) (rounded_up turns ps) (night_moves turns ps) maps }

@@ -8,8 +8,8 @@ mod scheduling;
 ghost use Rattle.std.specs.Prelude.{◌≤◌};
 
 pub use laws::{
-    each_is_night_stands, has_best_stands, more_dishes_stands, one_more_stands,
-    rounding_up_stands, side_by_side_stands, station_is_night_stands,
+    each_is_night_stands, has_best_stands, more_dishes_stands, one_more_stands, rounding_up_stands,
+    side_by_side_stands, station_is_night_stands,
 };
 pub use planning::{Counted, Done, plan, plan_counted, try_plan};
 pub use scheduling::{FreeFrom, Scheduling};
@@ -17,7 +17,7 @@ pub use scheduling::{FreeFrom, Scheduling};
 #[cfg(test)]
 mod tests {
     use super::*;
-    use engine::{Summed, gain_most};
+    use engine::{Gained, Summed, gain_most};
     use passes::{Pass, Refusal};
     use std::array;
     use std::test::Fail;
@@ -97,49 +97,63 @@ mod tests {
         assert_eq!(rt; room, [9; 3]);
     }
 
-    // Eight passes at a time, of ten seconds each and ten seconds apart, which all eight dishes may follow.
-    fn by_eights<const N: usize>() -> [Pass; N]
-        requires { N ≤ 128 }
-    {
+    // Passes that begin so many seconds apart and last so long or up to twice as long, with lengths, worths and marks that look like no pattern.
+    fn scattered(apart: u32, length: u32, steps: [u32; 2], marks: [u32; 3]) -> [[u32; 4]; 48] {
         array::from_fn(|i| {
-            let from = 20 * (i as u32 / 8);
-            Pass {
-                from,
-                to: from + 10,
-                worth: u32::MAX,
-                marks: 255,
-            }
+            // Kept: the proof of a closure doesn't know how far `i` goes, so nothing is added or multiplied that could overflow.
+            let i = (i % 48) as u32;
+            let square = i.wrapping_mul(i);
+            let from = i.wrapping_mul(apart);
+            let more = (square.wrapping_mul(steps[0]) % 97).wrapping_mul(length) / 97;
+            let to = from.wrapping_add(length).wrapping_add(more);
+            let mixed = square
+                .wrapping_mul(steps[1])
+                .wrapping_add(i.wrapping_mul(7));
+            [from, to, 1 + mixed % 100, marks[square as usize % 7 % 3]]
         })
     }
 
-    // What is gained at most by dishes that take so long to turn.
-    fn gained<'a, const N: usize>(turns: &'a [u32; 8], passes: &'a [Pass; N]) -> Option<u64>
-        requires { N ≤ 128 }
-    {
-        let problem = Summed {
-            gains: Scheduling::new(turns, passes),
+    // Lists that are hard to plan. Without one of the cuts many more states are visited.
+    #[test]
+    fn few_states_are_visited(rt: HostRuntime) -> Result<(), Fail> {
+        for (passes, worth, visited) in [
+            (scattered(100, 900, [113, 73], [3, 5, 15]), 1075, 1595),
+            (scattered(60, 300, [37, 61], [15, 7, 14]), 1366, 1271),
+            (scattered(200, 900, [89, 61], [15, 7, 14]), 1609, 1166),
+            (scattered(100, 600, [113, 97], [15, 15, 15]), 1134, 653),
+        ] {
+            let mut room = vec![in rt.alloc(); 9; 48]?;
+            assert_eq!(rt;
+                plan_counted(4, 90, passes.as_flattened(), room.as_mut_slice()),
+                Ok(Counted { worth, visited })
+            );
+        }
+        Ok(())
+    }
+
+    #[test]
+    fn the_plain_search(rt: HostRuntime) {
+        let pass = |from, to| Pass {
+            from,
+            to,
+            worth: 1,
+            marks: 1,
         };
-        let mut made = [0; N];
-        let mut room = [9; N];
-        gain_most(&problem, &mut made, &mut [], &mut room).most
-    }
-
-    #[test]
-    fn eight_dishes(rt: HostRuntime) {
-        // all have turned when the next eight begin
-        let turns = [0, 10, 2, 3, 4, 5, 6, 7];
-        let passes = by_eights::<128>();
-        assert_eq!(rt; gained(&turns, &passes), Some(128 * u32::MAX as u64));
-    }
-
-    #[test]
-    fn a_dish_with_its_own_turning(rt: HostRuntime) {
-        // the first eight of those passes, and a ninth that only the last dish may follow: it has turned by then, or it hasn't
-        let mut passes = by_eights::<9>();
-        passes[8].marks = 128;
-        for (turn, followed) in [(10, 9), (11, 8)] {
-            let turns = [0, 10, 2, 3, 4, 5, 6, turn];
-            assert_eq!(rt; gained(&turns, &passes), Some(followed * u32::MAX as u64));
+        let passes = [pass(0, 10), pass(10, 20), pass(20, 30)];
+        // a dish that doesn't have to turn follows all, and one that does every other one
+        for (turn, most, visited) in [(0, 3, 5), (1, 2, 5)] {
+            let turns = [turn];
+            let problem = Summed {
+                gains: Scheduling::new(&turns, &passes),
+            };
+            let mut room = [9; 3];
+            assert_eq!(rt;
+                gain_most(&problem, &mut [0; 3], &mut [], &mut room),
+                Gained {
+                    most: Some(most),
+                    visited
+                }
+            );
         }
     }
 }
