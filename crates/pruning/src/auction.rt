@@ -1,5 +1,5 @@
 // Prices at which the bound is low, found by an auction. Nothing rests on how low it is.
-ghost use Rattle.std.specs.Prelude.{◌≡◌, ◌^◌, ◌<◌, ◌≤◌, length};
+ghost use Rattle.std.specs.Prelude.{◌≡◌, ℕ, ◌^◌, ◌<◌, ◌≤◌, length, slice_index};
 ghost use Rattle.pruning.specs.declared.rounding.TheConstants.{MOST_PASSES};
 ghost use Rattle.pruning.specs.declared.prices.TheConstants.{SCALE};
 ghost use Rattle.pruning.specs.Prices.{NoneAbove};
@@ -8,22 +8,22 @@ use crate::prices::{full_price, less_prices};
 use crate::rounding::{MOST_PASSES, Rounded};
 use passes::Pass;
 
-const ROUNDS: usize = 120;
+const ROUNDS: usize = 80;
 
 // Prices move by so many parts of what passes are worth.
 const PARTS: u64 = 1 << 16;
 
-const FIRST_STEP: u64 = PARTS / 4;
+const FIRST_STEP: u64 = PARTS / 2;
 
 // At first nothing has a price. In each round, each dish in turn asks for the passes by which it alone gains the most at the prices. Then the price of
 // each pass that it asks for rises, and that of each other pass falls, so that a pass for which one dish asks in a round keeps its price. Steps become
 // shorter and shorter.
-#[derive(Clone, Copy)]
+#[derive(Drop)]
 pub struct Auction<'a> {
     night: Rounded<'a>,
-    // What a pass is worth on average.
-    mean: u64,
-    ghost moderate: { mean < 2 ^ 50 },
+    // By how much each pass's price falls, in a whole step, for each dish that doesn't ask for it.
+    // Kept: a place for each of the most passes, since memory is fixed.
+    strides: [u64; MOST_PASSES],
 }
 
 impl<'a> Auction<'a> {
@@ -31,8 +31,8 @@ impl<'a> Auction<'a> {
         ensures same_turns { result.night.turns.now ≡ night.entry.turns.now }
         ensures same_passes { result.night.passes.now ≡ night.entry.passes.now }
     {
-        let mean = mean_price(night.passes);
-        Auction { night, mean }
+        let strides = strides_of(night.passes, night.turns.len());
+        Auction { night, strides }
     }
 }
 
@@ -45,7 +45,7 @@ impl Auction<'_> {
         let mut step = FIRST_STEP;
         for round in 0..ROUNDS {
             prices = self.after_round(round, step, &prices);
-            step = step * 15 / 16;
+            step = step * 29 / 32;
         }
         prices
     }
@@ -102,7 +102,7 @@ impl Auction<'_> {
         let others = (self.night.turns.len() as u64).saturating_sub(1);
         let mut moved = *prices;
         for (i, pass) in self.night.passes.iter().enumerate() {
-            let change = self.change(pass, step);
+            let change = self.strides[i].saturating_mul(step) / PARTS;
             moved[i] = if asked[i] > 0 {
                 let rise = change.saturating_mul(others);
                 prices[i].saturating_add(rise).min(full_price(pass))
@@ -112,14 +112,20 @@ impl Auction<'_> {
         }
         moved
     }
+}
 
-    // By how much a pass's price falls for each dish that doesn't ask for it.
-    fn change(&self, pass: &Pass, step: u64) -> u64
-        ensures { result < 2 ^ 52 }
-    {
-        let base = (full_price(pass) + self.mean) / 2;
-        base.saturating_mul(step) / PARTS / (self.night.turns.len() as u64).max(1)
+// What a pass is worth, and what passes are worth on average, half of each, for one of so many dishes.
+// Kept: by index, as the room is an array, of which the front is used.
+fn strides_of(passes: &[Pass], dishes: usize) -> [u64; MOST_PASSES]
+    requires few_passes { length passes.now ≤ MOST_PASSES }
+    ensures { (i : ℕ) → i < length passes.now → slice_index result i < 2 ^ 50 }
+{
+    let mean = mean_price(passes);
+    let mut strides = [0; MOST_PASSES];
+    for (i, pass) in passes.iter().enumerate() {
+        strides[i] = (full_price(pass) + mean) / 2 / (dishes as u64).max(1);
     }
+    strides
 }
 
 // What a pass is worth on average, in the parts that prices are counted in.
