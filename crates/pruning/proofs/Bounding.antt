@@ -1,5 +1,5 @@
 -- Why prices bound what is left to gain. Assumes nothing.
-use Rattle.std.proofs.Common.{◌≡◌, ◌≢◌, ℕ, zero, suc, ◌+◌, ◌-◌, ◌*◌, ◌<◌, ◌≤◌, true, List, [], ◌∷◌, length, Some, sym, refl, ap, subst, ◌∙◌, ⊎_elim, mul-add, arith}
+use Rattle.std.proofs.Common.{◌≡◌, ℕ, zero, suc, ◌+◌, ◌-◌, ◌*◌, ◌<◌, ◌≤◌, true, List, [], ◌∷◌, length, ap, ⊎_elim, mul-add, arith}
 use Rattle.std.specs.Prelude.{slice_index}
 use Rattle.std.proofs.lemmas.Bool.{cases_eq}
 use Rattle.std.proofs.lemmas.Bool.Decides.{nat_tests}
@@ -11,9 +11,9 @@ use Rattle.passes.specs.Rule.{nth}
 use Rattle.pruning.specs.declared.rounding.TheConstants.{MOST_DISHES}
 use Rattle.pruning.specs.declared.rounding.NextPasses.{NextPasses}
 use Rattle.pruning.specs.Prices.{together}
-use Rattle.pruning.specs.Rounding.{suits, next_pass, each_dish, free_after, next_then, allowed, NextFor, Upcoming, rounded_night}
+use Rattle.pruning.specs.Rounding.{suits, next_pass, each_dish, free_after, next_then, allowed, Upcoming, rounded_night}
 use Rattle.pruning.specs.Suiting.{each_dish_at, next_within}
-use Rattle.pruning.specs.Lawful.{went_on, then_followed, then_waits, then_kept, then_cases, rounded_moves}
+use Rattle.pruning.specs.Lawful.{went_on, then_followed, then_cases, rounded_moves}
 use Rattle.pruning.proofs.Together.{together_le, together_less}
 
 -- numbers by which what is left to gain is bounded: left k whatever the passes from pass k on may be worth at their prices, and table d k what dish d

@@ -1,5 +1,5 @@
 -- Why a state whose dishes are all free no later keeps up with another by the same choices. Assumes nothing.
-use Rattle.std.proofs.Common.{◌≡◌, ◌≢◌, ℕ, ◌+◌, ◌-◌, ◌<◌, ◌≤◌, true, List, [], ◌∷◌, length, Some, sym, refl, ap, ◌∙◌, ⊎_elim, arith}
+use Rattle.std.proofs.Common.{◌≡◌, ◌≢◌, ℕ, ◌+◌, ◌-◌, ◌<◌, ◌≤◌, true, List, [], ◌∷◌, length, Some, refl, ⊎_elim, arith}
 use Rattle.std.specs.Prelude.{slice_index}
 use Rattle.std.proofs.lemmas.Bool.{both_ways, cases_eq, cases_lt}
 use Rattle.std.proofs.lemmas.Bool.Decides.{nat_tests}
@@ -7,10 +7,9 @@ use Rattle.engine.specs.Runs.{leads, Way}
 use Rattle.engine.specs.Gaining.{gained}
 use Rattle.engine.proofs.Leading.{leads_first}
 use Rattle.passes.specs.declared.model.Pass.{Pass}
-use Rattle.passes.specs.Rule.{nth}
 use Rattle.pruning.specs.declared.rounding.TheConstants.{MOST_DISHES}
 use Rattle.pruning.specs.declared.rounding.NextPasses.{NextPasses}
-use Rattle.pruning.specs.Rounding.{suits, next_pass, each_dish, next_then, allowed, go_on, NextFor, NoLater, Upcoming, rounded_night}
+use Rattle.pruning.specs.Rounding.{next_pass, each_dish, next_then, allowed, go_on, NoLater, Upcoming, rounded_night}
 use Rattle.pruning.specs.Suiting.{each_dish_at, next_within, next_none}
 use Rattle.pruning.specs.Lawful.{went_on, then_followed, then_waits, then_kept, rounded_moves}
 

@@ -1,5 +1,5 @@
 -- Why the tables of single dishes, once prices are paid, bound what they gain together. Assumes nothing.
-use Rattle.std.proofs.Common.{◌≡◌, ℕ, ◌+◌, ◌-◌, ◌*◌, ◌^◌, ◌<◌, ◌≤◌, max, Bool, true, not, List, length, drop, get_or, sum, sym, ap, ◌∙◌, ⊎_elim, arith}
+use Rattle.std.proofs.Common.{◌≡◌, ℕ, ◌+◌, ◌-◌, ◌*◌, ◌^◌, ◌<◌, ◌≤◌, Bool, true, not, List, length, drop, get_or, sum, ⊎_elim, arith}
 use Rattle.std.specs.Prelude.{slice_index, nat_le}
 use Rattle.std.specs.List.{position_or_len}
 use Rattle.std.proofs.lemmas.Bool.{cases_lt}
@@ -8,13 +8,12 @@ use Rattle.std.proofs.lemmas.List.FromFn.{get_or-map-range_with_len, length-map-
 use Rattle.std.proofs.lemmas.List.Sums.{sum_by-drop_more, fails_before_first, passes_at_first, prefix_len-le-length, sum_by-le, sum_by-take-drop}
 use Rattle.std.proofs.lemmas.List.Elements.{All-from_get_or}
 use Rattle.passes.specs.declared.model.Pass.{Pass}
-use Rattle.passes.specs.declared.model.Station.{Station}
 use Rattle.passes.specs.Rule.{no_pass, nth}
 use Rattle.capacity.specs.Alone.{GainsMost, RightFrom}
 use Rattle.capacity.specs.Order.{InTime, FirstFrom}
 use Rattle.capacity.proofs.Chains.{gain_le_sum}
 use Rattle.capacity.proofs.Tables.{one_most, entry_falls, entry_able}
-use Rattle.pruning.specs.declared.rounding.TheConstants.{MOST_DISHES, MOST_PASSES}
+use Rattle.pruning.specs.declared.rounding.TheConstants.{MOST_PASSES}
 use Rattle.pruning.specs.Prices.{station_of_dish, Moderate, Fair, less_prices, entry, TablesAt, LeftFalls, TablesFall, FallsPay, LeftLow, TablesLow}
 use Rattle.pruning.specs.Rounding.{suits, next_pass, free_after, Small}
 use Rattle.pruning.specs.Suiting.{next_within, next_suits}

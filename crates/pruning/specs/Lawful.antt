@@ -1,5 +1,5 @@
 -- That the decisions of a night over rounded states are lawful. Assumes nothing.
-use Rattle.std.proofs.Common.{◌≡◌, ℕ, ◌+◌, ◌<◌, ◌≤◌, true, List, length, Some, sym, refl, ap, subst, ⊎_elim, ◌≢◌, arith}
+use Rattle.std.proofs.Common.{◌≡◌, ℕ, ◌+◌, ◌<◌, ◌≤◌, true, List, length, Some, sym, refl, subst, ⊎_elim, ◌≢◌, arith}
 use Rattle.std.specs.Prelude.{slice_index}
 use Rattle.std.proofs.lemmas.Bool.{cases_eq}
 use Rattle.std.proofs.lemmas.Bool.Decides.{nat_tests}
@@ -7,9 +7,9 @@ use Rattle.engine.specs.Runs.{MoveLaws}
 use Rattle.engine.specs.Gaining.{SumLaws}
 use Rattle.passes.specs.declared.model.Pass.{Pass}
 use Rattle.passes.specs.Rule.{nth}
-use Rattle.pruning.specs.declared.rounding.TheConstants.{MOST_DISHES, MOST_PASSES}
+use Rattle.pruning.specs.declared.rounding.TheConstants.{MOST_PASSES}
 use Rattle.pruning.specs.declared.rounding.NextPasses.{NextPasses}
-use Rattle.pruning.specs.Rounding.{suits, next_pass, each_dish, free_after, next_then, allowed, go_on, NextFor, Upcoming, Small, rounded_night}
+use Rattle.pruning.specs.Rounding.{next_pass, each_dish, free_after, next_then, allowed, go_on, NextFor, Small, rounded_night}
 use Rattle.pruning.specs.Suiting.{next_for, each_dish_at}
 
 -- where a decision that is allowed leads

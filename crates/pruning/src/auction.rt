@@ -27,6 +27,7 @@ pub struct Auction<'a> {
 }
 
 impl<'a> Auction<'a> {
+    // The auction of a night.
     pub fn new(night: Rounded<'a>) -> Auction<'a>
         ensures same_turns { result.night.turns.now ≡ night.entry.turns.now }
         ensures same_passes { result.night.passes.now ≡ night.entry.passes.now }

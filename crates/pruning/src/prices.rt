@@ -43,7 +43,7 @@ pub struct Priced<'a> {
 }
 
 // What a pass is worth, in the parts that prices are counted in.
-pub fn full_price(pass: &Pass) -> u64
+pub(crate) fn full_price(pass: &Pass) -> u64
     ensures scaled { result ≡ SCALE * pass.now.worth }
     ensures moderate { result < 2 ^ 42 }
 {
@@ -80,7 +80,7 @@ fn add_up(prices: &[u64]) -> [u64; ENTRIES]
 
 // What is gained by following each pass, once its price is paid.
 // Kept: by index, as in `fair_prices`.
-pub fn less_prices(passes: &[Pass], prices: &[u64]) -> [u64; MOST_PASSES]
+pub(crate) fn less_prices(passes: &[Pass], prices: &[u64]) -> [u64; MOST_PASSES]
     requires few_passes { length passes.now ≤ MOST_PASSES }
     requires one_each { length prices.now ≡ length passes.now }
     requires none_above { NoneAbove SCALE passes.now prices.now }
@@ -96,7 +96,7 @@ pub fn less_prices(passes: &[Pass], prices: &[u64]) -> [u64; MOST_PASSES]
 
 impl Rounded<'_> {
     // One dish alone.
-    pub fn alone(&self, dish: usize) -> OneDish<'_>
+    pub(crate) fn alone(&self, dish: usize) -> OneDish<'_>
         requires there { dish < length self.now.turns.now }
         ensures station { result.station ≡ station_of_dish self.now.turns.now dish }
         ensures same_dish { result.dish ≡ dish }
@@ -113,7 +113,7 @@ impl Rounded<'_> {
     }
 
     // What a dish alone can gain from each pass on.
-    pub fn table_of(&self, dish: usize, gains: &[u64]) -> [u64; ENTRIES]
+    pub(crate) fn table_of(&self, dish: usize, gains: &[u64]) -> [u64; ENTRIES]
         requires there { dish < length self.now.turns.now }
         requires a_gain_each { length gains.now ≡ length self.now.passes.now }
         requires sum_fits { sum gains.now < 2 ^ 64 }

@@ -25,7 +25,7 @@ pub struct NextPasses {
 
 impl NextPasses {
     // The next pass of a dish.
-    pub fn next_of(self, dish: usize) -> usize
+    pub(crate) fn next_of(self, dish: usize) -> usize
         requires there { dish < MOST_DISHES }
         ensures { result ≡ slice_index self.next dish }
     {
@@ -33,7 +33,7 @@ impl NextPasses {
     }
 
     // Whether each dish's next pass comes no later than by the other state.
-    pub fn comes_no_later(self, other: NextPasses) -> bool
+    pub(crate) fn comes_no_later(self, other: NextPasses) -> bool
         ensures { MatchBool result (NoLater self other) (NoLater self other → ⊥) }
     {
         self.next
@@ -43,7 +43,7 @@ impl NextPasses {
     }
 
     // A number in which all next passes and the stage are mixed, the same for the same ones.
-    pub fn mixed_with(self, stage: usize) -> u64
+    pub(crate) fn mixed_with(self, stage: usize) -> u64
         ensures { result < 2 ^ 32 }
     {
         let mixed = u64::from_le_bytes(self.next).wrapping_mul(MIXER);
@@ -111,7 +111,7 @@ impl Rounded<'_> {
     }
 
     // Before all passes, the first that each dish may follow.
-    pub fn start(&self) -> NextPasses
+    pub(crate) fn start(&self) -> NextPasses
         ensures { let r = self.now in result ≡ (rounded_night r.turns.now r.passes.now).moves.start }
     {
         let mut next = [0; MOST_DISHES];
@@ -122,7 +122,7 @@ impl Rounded<'_> {
     }
 
     // The state to which a decision on a pass leads, unless it isn't allowed.
-    pub fn step(&self, stage: usize, choice: u8, state: NextPasses) -> Option<NextPasses>
+    pub(crate) fn step(&self, stage: usize, choice: u8, state: NextPasses) -> Option<NextPasses>
         requires within { stage < length self.now.passes.now }
         ensures { let r = self.now in result ≡ go_on r.turns.now r.passes.now stage choice state }
     {

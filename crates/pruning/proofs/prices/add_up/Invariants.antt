@@ -1,4 +1,4 @@
-use Rattle.std.proofs.Common.{◌≡◌, ℕ, ◌-◌, ◌*◌, ◌^◌, ◌≤◌, length, get_or}
+use Rattle.std.proofs.Common.{◌≡◌, ◌-◌, ◌*◌, ◌^◌, ◌≤◌, length, get_or}
 use Rattle.pruning.proofs.Adding.{AddsUp}
 use Rattle.pruning.proofs.prices.add_up.Given as goal
 

@@ -1,5 +1,4 @@
-use Rattle.std.proofs.Common.{◌≡◌, ℕ, ◌*◌, ◌<◌, ◌≤◌, length, get_or}
-use Rattle.passes.specs.Rule.{nth}
+use Rattle.std.proofs.Common.{◌≡◌, length}
 use Rattle.pruning.specs.Prices.{NoneAbove}
 use Rattle.pruning.proofs.auction.Auction.moved.Given as goal
 

@@ -1,8 +1,7 @@
-use Rattle.std.proofs.Common.{◌≡◌, ℕ, ◌≤◌, List, length, take, get_or, ◌∙◌, arith, rules}
+use Rattle.std.proofs.Common.{◌≡◌, ℕ, ◌≤◌, List, length, take, arith, rules}
 use Rattle.std.proofs.lemmas.List.{get_or-take, length-take-le}
 use Rattle.passes.specs.declared.model.Pass.{Pass}
 use Rattle.pruning.specs.Prices.{Fair, NoneAbove}
-use Rattle.pruning.specs.Rounding.{Small}
 use Rattle.pruning.proofs.Tables.{moderate_fits, left_low, tables_low, left_falls, tables_fall, falls_pay}
 use Rattle.pruning.proofs.prices.Priced.new.Goals as goal
 

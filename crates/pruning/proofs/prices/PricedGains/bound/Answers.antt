@@ -1,4 +1,4 @@
-use Rattle.std.proofs.Common.{◌≡◌, ℕ, ◌+◌, ◌*◌, ◌/◌, ◌≤◌, length, get_or, ap, arith}
+use Rattle.std.proofs.Common.{◌≡◌, ◌/◌, ◌≤◌, length, get_or, ap, arith}
 use Rattle.engine.specs.Gaining.{gained}
 use Rattle.pruning.specs.Rounding.{rounded_night}
 use Rattle.pruning.specs.Prices.{together, entry}

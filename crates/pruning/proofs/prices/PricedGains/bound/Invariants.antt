@@ -1,4 +1,4 @@
-use Rattle.std.proofs.Common.{◌≡◌, ◌+◌, ◌*◌, ◌^◌, ◌≤◌, ◌<◌, get_or}
+use Rattle.std.proofs.Common.{◌≡◌, ◌+◌, ◌*◌, ◌^◌, ◌<◌, get_or}
 use Rattle.pruning.specs.Prices.{together, entry}
 use Rattle.pruning.proofs.prices.PricedGains.bound.Given as goal
 

@@ -1,4 +1,4 @@
-use Rattle.std.proofs.Common.{sym, ap, ◌∙◌, arith, rules}
+use Rattle.std.proofs.Common.{sym, arith, rules}
 use Rattle.pruning.specs.Suiting.{next_is}
 use Rattle.pruning.proofs.rounding.Rounded.next_pass.Goals as goal
 

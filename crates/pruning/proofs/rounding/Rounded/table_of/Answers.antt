@@ -1,4 +1,4 @@
-use Rattle.std.proofs.Common.{◌<◌, length, arith, rules}
+use Rattle.std.proofs.Common.{◌<◌, length, rules}
 use Rattle.std.proofs.Math.ListN.{get_or-append}
 use Rattle.pruning.proofs.rounding.Rounded.table_of.Goals as goal
 
