@@ -8,7 +8,7 @@ use crate::prices::{full_price, less_prices};
 use crate::rounding::{MOST_PASSES, Rounded};
 use passes::Pass;
 
-const ROUNDS: usize = 80;
+const ROUNDS: usize = 100;
 
 // Prices move by so many parts of what passes are worth.
 const PARTS: u64 = 1 << 16;
@@ -46,7 +46,7 @@ impl Auction<'_> {
         let mut step = FIRST_STEP;
         for round in 0..ROUNDS {
             prices = self.after_round(round, step, &prices);
-            step = step * 29 / 32;
+            step = step * 59 / 64;
         }
         prices
     }
