@@ -24,3 +24,18 @@ module _ {S : Type 0} (step : Step S) where
   pub leads_push : (cs : List ℕ) (c i : ℕ) (s t u : S) → leads step i s cs ≡ Some t → step (i + length cs) c t ≡ Some u → leads step i s (cs ++ (c ∷ [])) ≡ Some u
   unfolding leads
   leads_push cs c i s t u h next = leads_append cs (c ∷ []) i s t h ∙ rw next refl
+
+  -- where one choice isn't allowed, the list of all leads nowhere
+  pub leads_stops : (cs : List ℕ) (i : ℕ) (s t : S) → i < length cs → leads step 0 s (take i cs) ≡ Some t → step i (get_or cs i 0) t ≡ None → leads step 0 s cs ≡ None
+  unfolding leads
+  leads_stops cs i s t l h none =
+      let count : 0 + length (take i cs) ≡ i = omega (arith, length-take-le i cs (omega arith)) in
+      let on : leads step 0 s (take i cs ++ drop i cs) ≡ leads step i t (drop i cs) = leads_append (take i cs) (drop i cs) 0 s t h ∙ ap (λ k. leads step k t (drop i cs)) count in
+      let next : leads step i t (drop i cs) ≡ None = rw (drop_more cs i 0 l, none) refl in
+      rw (take-append-drop i cs) at (on ∙ next)
+
+  -- a choice more of a list
+  pub leads_take_more : (cs : List ℕ) (i : ℕ) (s t u : S) → i < length cs → leads step 0 s (take i cs) ≡ Some t → step i (get_or cs i 0) t ≡ Some u → leads step 0 s (take (i + 1) cs) ≡ Some u
+  leads_take_more cs i s t u l h next =
+      let count : 0 + length (take i cs) ≡ i = omega (arith, length-take-le i cs (omega arith)) in
+      rw (take_more cs i 0 l) (leads_push (take i cs) (get_or cs i 0) 0 s t u h (rw count next))

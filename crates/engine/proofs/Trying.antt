@@ -91,12 +91,17 @@ module _ {S : Type 0} (m : Model S) where
       let f = covers cs e w in
       ⊎_elim (λ yes. absurd (both_ways _ (none cs f.0 f.1) (f.2 best yes))) (λ no. no) (cases_Bool (m.ahead e best))
 
+  -- what the room holds before the search, if it is a run
+  pub holds_first : (room : List ℕ) (first : Option S) → length room ≡ m.moves.stages → first ≡ leads m.moves.step 0 m.moves.start room → Holds m first room
+  holds_first room None long is = tt
+  holds_first room (Some b) long is = record { one_each = omega (arith, long); ends = sym is }
+
   -- what the search ends with, and hands on
   pub answered :
-      (room after : List ℕ) (end : Option S) (room₁ : List ℕ) (best : Option S) → after ≡ room₁ → end ≡ best →
-      Improved m None room best room₁ → Unbeaten m 0 m.moves.start best → Answered m room end after
-  answered room after end room₁ best same same₁ better none = rw (same, same₁) (by_best best better none)
+      (first : Option S) (room after : List ℕ) (end : Option S) (room₁ : List ℕ) (best : Option S) → after ≡ room₁ → end ≡ best →
+      Improved m first room best room₁ → Unbeaten m 0 m.moves.start best → Answered m room end after
+  answered first room after end room₁ best same same₁ better none = rw (same, same₁) (by_best best better none)
     where
-      by_best : (best : Option S) → Improved m None room best room₁ → Unbeaten m 0 m.moves.start best → Answered m room best room₁
+      by_best : (best : Option S) → Improved m first room best room₁ → Unbeaten m 0 m.moves.start best → Answered m room best room₁
       by_best None better none = (λ cs e r. both_ways true (none cs e r) refl, better.untouched refl)
       by_best (Some b) better none = record { run = better.holds; best = none }

@@ -1,5 +1,6 @@
 // Decisions that gain something: the run that gains the most.
 ghost use Rattle.std.specs.Prelude.{◌≡◌, ℕ, ◌-◌, ◌<◌, ◌≤◌, true, length, is_some, None, MatchOption};
+ghost use Rattle.engine.specs.Runs.{leads};
 ghost use Rattle.engine.specs.Gaining.{Gain, gaining, SumLaws, Bound, KeepsUp, GainAnswered, tally_moves, tally_order};
 ghost use Rattle.engine.specs.Summing.{tally_move_laws, tally_order_laws};
 
@@ -172,7 +173,7 @@ pub struct Gained {
 }
 
 // Leaves a run that gains the most in the room and answers how much that is, or answers that there is no run at all and leaves the room as it
-// was. What is left in `made` and in the table `seen` means nothing, and neither does what the table holds before.
+// was. If the room holds a run already, that is the first one to be beaten. What is left in `made` and in the table `seen` means nothing, and neither does what the table holds before.
 pub fn gain_most<G: Gains>(
     problem: &Summed<G>,
     made: &mut [u8],
@@ -182,7 +183,7 @@ pub fn gain_most<G: Gains>(
     requires a_place_each { length made.old ≡ (G.moves problem.now.gains).stages }
     requires one_each { length room.old ≡ (G.moves problem.now.gains).stages }
     ensures answered { GainAnswered (gaining (G.moves problem.now.gains) (G.gain problem.now.gains) (G.most problem.now.gains)) room.old result.most room.new }
-    ensures counted { 0 < result.visited }
+    ensures counted { leads (G.moves problem.now.gains).step 0 (G.moves problem.now.gains).start room.old ≡ None → 0 < result.visited }
 {
     let found = search(problem, made, seen, room);
     Gained {

@@ -4,6 +4,7 @@
 mod decisions;
 mod gains;
 mod problem;
+mod running;
 mod searching;
 mod seen;
 #[cfg(test)]

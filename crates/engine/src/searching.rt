@@ -1,11 +1,12 @@
 // The search: depth first, through all choices of all stages.
 ghost use Rattle.std.specs.Prelude.{◌≡◌, ◌<◌, ◌⊎◌, true, false, length, take, None};
 ghost use Rattle.std.specs.List.{All};
-ghost use Rattle.engine.specs.Runs.{Run};
+ghost use Rattle.engine.specs.Runs.{leads, Run};
 ghost use Rattle.engine.specs.Problems.{in_order, Answered};
 ghost use Rattle.engine.specs.Searching.{Unbeaten, Holds, Came, Improved, Known, Fresh, choice_at};
 
 use crate::problem::Problem;
+use crate::running::end_of;
 use crate::seen::{Seen, forget_all, place, remember};
 
 // A search under way: the best final state so far, the room, which holds a run to it, the table of states from which every way on was tried,
@@ -140,8 +141,8 @@ fn choice_at(first: u8, turn: u8) -> u8
     }
 }
 
-// Leaves a best run in the room and answers its final state, or answers that there is no run at all and leaves the room as it was. What is left
-// in `made`, where the search writes the choices that it tries, and in the table `seen` means nothing, and neither does what the table holds before.
+// Leaves a best run in the room and answers its final state, or answers that there is no run at all and leaves the room as it was. If the room holds
+// a run already, that is the first one to be beaten: the better it is, the more is left out. What is left in `made`, where the search writes the choices that it tries, and in the table `seen` means nothing, and neither does what the table holds before.
 pub fn search<P: Problem>(
     problem: &P,
     made: &mut [u8],
@@ -151,10 +152,10 @@ pub fn search<P: Problem>(
     requires a_place_each { length made.old ≡ (P.moves problem.now).stages }
     requires one_each { length room.old ≡ (P.moves problem.now).stages }
     ensures answered { Answered (in_order (P.moves problem.now) (P.ahead problem.now)) room.old result.best room.new }
-    ensures counted { 0 < result.visited }
+    ensures counted { leads (P.moves problem.now).step 0 (P.moves problem.now).start room.old ≡ None → 0 < result.visited }
 {
     forget_all(seen);
-    let mut best = None;
+    let mut best = end_of(problem, room);
     let mut exploring = Exploring {
         problem,
         room,
