@@ -1,0 +1,4 @@
+pub mod Growing
+pub mod Fronts
+pub mod Middles
+pub mod Plainly
