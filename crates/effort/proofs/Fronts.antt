@@ -1,5 +1,5 @@
 -- Why the front of a list that is taken is taken too. Assumes nothing.
-use Rattle.std.proofs.Common.{◌≡◌, ℕ, ◌+◌, ◌-◌, ◌*◌, ◌/◌, ◌<◌, ◌≤◌, true, List, length, take, eq-eqb, Some, None, Option, Ok, Err, Result, sym, refl, ap, ◌∙◌, arith, slice_index}
+use Rattle.std.proofs.Common.{◌≡◌, ℕ, ◌+◌, ◌-◌, ◌*◌, ◌/◌, ◌<◌, true, List, length, take, eq-eqb, Some, None, Option, Ok, Err, Result, sym, refl, ap, ◌∙◌, arith, slice_index}
 use Rattle.std.specs.Prelude.{is_none, IsOk}
 use Rattle.std.specs.Option.{option_map}
 use Rattle.std.specs.Result.{result_err}
@@ -10,7 +10,7 @@ use Rattle.passes.specs.Checks.{in_range}
 use Rattle.passes.specs.Numbers.{passes_in, pass_at, sound, begun, first_fault}
 use Rattle.passes.specs.Refusals.{or_else, refused, refused_with_room, room_refused, station_refused, list_refused}
 use Rattle.passes.proofs.Fours.{length-passes_in}
-use Rattle.passes.proofs.Taking.{fours, none_at_fault, place_is_first, sound_says, sound_from, station_ok}
+use Rattle.passes.proofs.Taking.{fours, none_at_fault, place_is_first, sound_says, sound_from}
 
 -- the numbers of a list that is taken are those of sound passes
 no_fault : (a : Option Refusal) (o : Option ℕ) → is_none (or_else a (option_map BadPass o)) ≡ true → (a ≡ None) × (o ≡ None)

@@ -2,3 +2,4 @@ pub mod Growing
 pub mod Fronts
 pub mod Middles
 pub mod Plainly
+pub mod Drawing

@@ -1,5 +1,5 @@
 -- What is found in either way is what a best plan is worth. Assumes nothing.
-use Rattle.std.proofs.Common.{◌≡◌, ℕ, List, length, replicate, Some, None, Option, sym, refl, ap}
+use Rattle.std.proofs.Common.{◌≡◌, ℕ, List, replicate, Some, None, Option, sym, ap}
 use Rattle.std.specs.Prelude.{IsSome, IfSome}
 use Rattle.engine.specs.Gaining.{GainAnswered}
 use Rattle.passes.specs.declared.model.Pass.{Pass}

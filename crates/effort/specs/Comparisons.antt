@@ -1,5 +1,5 @@
 -- What may be said of a list that was planned in two ways. Assumes nothing: these are definitions.
-use Rattle.std.specs.Prelude.{◌≡◌, ℕ, ◌*◌, Bool, true, false, List, Some, Option, IsSome, IfSome}
+use Rattle.std.specs.Prelude.{◌≡◌, ℕ, ◌*◌, Bool, true, false, List, Some, Option, IsSome, IfSome, Any, take}
 use Rattle.passes.specs.Nights.{station_of}
 use Rattle.passes.specs.Numbers.{passes_in}
 use Rattle.passes.specs.Statements.{BestWorth}
@@ -28,6 +28,10 @@ pub record Compared (t : ℕ) (xs : List ℕ) (c : Comparison) : Type 0 where
   pub searched_some : IsSome searched
   pub searched_best : IfSome searched (BestOf t xs)
   pub says : TrueOf planned searched c
+
+-- the comparison is true of the front of one of these lists
+abbrev pub ComparedIn : List Case → Comparison → Type 0
+ComparedIn cases c = Any (λ case. Compared case.turn (take (4 * FRONT) case.numbers.items) c) cases
 
 -- the list of a case is of the shape
 abbrev pub CaseOf : Shape → Case → Type 0

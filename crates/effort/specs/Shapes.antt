@@ -1,5 +1,5 @@
 -- Which lists are of a shape. Assumes nothing: these are definitions.
-use Rattle.std.specs.Prelude.{◌≡◌, ℕ, ◌+◌, ◌-◌, ◌*◌, ◌%◌, ◌^◌, ◌<◌, ◌≤◌, List, [], ◌∷◌, ◌==◌, length, Contains, MatchBool, All, slice_index}
+use Rattle.std.specs.Prelude.{◌≡◌, ℕ, ◌+◌, ◌-◌, ◌*◌, ◌%◌, ◌^◌, ◌<◌, ◌≤◌, List, [], ◌∷◌, ◌==◌, length, Contains, MatchBool, All, Any, slice_index}
 use Rattle.std.specs.List.Sorted.{IsNonDecreasing}
 use Rattle.passes.specs.declared.model.Pass.{Pass}
 use Rattle.passes.specs.Numbers.{pass_at}
@@ -76,6 +76,8 @@ pub record BeginsOf (shape : Shape) (xs : List ℕ) : Type 0 where
   pub span : SpanOf shape last
   pub early : last ≤ 43200
   pub within : All (λ x. x ≤ last) xs
+  -- for each place there is one that may be drawn for it
+  pub each : (i : ℕ) → i < length xs → Any (BeginOf shape i) xs
   pub few : length xs ≤ 48
   pub order : IsNonDecreasing xs
 

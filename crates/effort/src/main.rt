@@ -3,7 +3,7 @@
 
 ghost use Rattle.std.specs.Prelude.{◌≡◌, ◌<◌, IfOk, All, length, vec_len};
 ghost use Rattle.effort.specs.declared.TheConstants.{LISTS};
-ghost use Rattle.effort.specs.Comparisons.{CaseOf};
+ghost use Rattle.effort.specs.Comparisons.{CaseOf, ComparedIn};
 
 mod cases;
 mod comparing;
@@ -71,7 +71,8 @@ fn visits(alloc: Global, cases: &[Case]) -> Result<Vec<u64>, AllocError>
 
 // Compares the planner with the plain search on the front of each list.
 fn compare_all(alloc: Global, cases: &[Case]) -> Result<Vec<Comparison>, AllocError>
-    ensures { IfOk result (λ comparisons. vec_len comparisons ≡ length cases.now) }
+    ensures count { IfOk result (λ comparisons. vec_len comparisons ≡ length cases.now) }
+    ensures compared { IfOk result (λ comparisons. All (ComparedIn cases.now) comparisons.items) }
 {
     let mut comparisons = Vec::new(alloc);
     for case in cases {

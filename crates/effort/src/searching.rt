@@ -21,6 +21,7 @@ pub fn planned(alloc: Global, case: &Case) -> Result<Counted, AllocError>
 // By the plain search, which goes through the seconds from which dishes are free, knows no prices and remembers no states.
 pub fn searched(alloc: Global, case: &Case) -> Result<Gained, AllocError>
     ensures some { IfOk result (λ gained. IsSome gained.most) }
+    ensures visited { IfOk result (λ gained. 0 < gained.visited) }
     ensures worth { IfOk result (λ gained. IfSome gained.most (BestOf case.now.turn case.now.numbers.items)) }
 {
     let night = Night::read(DISHES, case.turn, case.numbers.as_slice()).unwrap();

@@ -1,5 +1,6 @@
 // How long planning takes, beside other ways to plan the same lists.
 ghost use Rattle.std.specs.Prelude.{◌≡◌, ◌<◌, IfOk, length, vec_len};
+ghost use Rattle.effort.specs.Ways.{VisitsBy};
 
 use crate::cases::Case;
 use crate::searching::{planned, searched};
@@ -24,7 +25,9 @@ enum Way {
 
 impl Way {
     // Plans a list, and answers how many states were visited: none where there is a table in place of a search.
-    fn visit(self, alloc: Global, case: &Case) -> Result<u64, AllocError> {
+    fn visit(self, alloc: Global, case: &Case) -> Result<u64, AllocError>
+        ensures { IfOk result (VisitsBy self) }
+    {
         match self {
             Way::Planner => Ok(planned(alloc, case)?.visited),
             Way::PlainSearch => Ok(searched(alloc, case)?.visited),

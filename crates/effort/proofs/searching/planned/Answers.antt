@@ -1,4 +1,4 @@
-use Rattle.std.proofs.Common.{length, arith, ◌∙◌}
+use Rattle.std.proofs.Common.{arith, ◌∙◌}
 use Rattle.effort.proofs.Fronts.{ok_if_not_refused, room_taken}
 use Rattle.effort.proofs.Plainly.{best_worth}
 use Rattle.effort.proofs.searching.planned.Goals as goal

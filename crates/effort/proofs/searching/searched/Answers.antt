@@ -1,6 +1,4 @@
-use Rattle.std.proofs.Common.{◌∙◌}
 use Rattle.passes.specs.Nights.{NightOf}
-use Rattle.effort.proofs.Fronts.{ok_if_not_refused, not_refused}
 use Rattle.effort.proofs.Plainly.{Answered, some_found, best_found}
 use Rattle.effort.proofs.searching.searched.Goals as goal
 use Rattle.effort.proofs.searching.searched.Goals.{After-gain_most}

@@ -1,4 +1,4 @@
-use Rattle.std.proofs.Common.{◌≡◌, ◌≤◌, length, arith}
+use Rattle.std.proofs.Common.{◌≡◌, length, arith}
 use Rattle.std.proofs.lemmas.Bool.{le-leb}
 use Rattle.passes.specs.Checks.{turning_ok}
 use Rattle.effort.specs.Shapes.{BeginsOf}

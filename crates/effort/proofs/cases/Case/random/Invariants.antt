@@ -1,4 +1,3 @@
-use Rattle.std.proofs.Common.{◌≤◌}
 use Rattle.effort.proofs.Growing.{Growing}
 use Rattle.effort.proofs.cases.Case.random.Given as goal
 

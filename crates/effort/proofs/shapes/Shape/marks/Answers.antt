@@ -1,4 +1,4 @@
-use Rattle.std.proofs.Common.{◌*◌, ◌^◌, ◌≤◌, arith, one-mul, pow_mono}
+use Rattle.std.proofs.Common.{◌*◌, ◌^◌, ◌≤◌, arith, pow_mono}
 use Rattle.std.proofs.Math.Nat.{mod-le}
 use Rattle.effort.proofs.shapes.Shape.marks.Goals as goal
 
