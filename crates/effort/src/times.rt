@@ -1,5 +1,8 @@
 // How long planning takes, beside other ways to plan the same lists.
-ghost use Rattle.std.specs.Prelude.{◌≡◌, ◌<◌, IfOk, length, vec_len};
+ghost use Rattle.std.specs.Prelude.{◌≡◌, pos, IfOk, length, vec_len};
+ghost use Rattle.std.specs.Float.{binary64};
+ghost use Rattle.std.specs.Float.Ieee.{div, of_int};
+ghost use Rattle.std.specs.Duration.{as_secs_f64};
 ghost use Rattle.effort.specs.Ways.{VisitsBy};
 
 use crate::cases::Case;
@@ -73,12 +76,16 @@ impl Effort {
     }
 
     // How many times as long it took.
-    fn times_as_long(&self, other: &Effort) -> f64 {
+    fn times_as_long(&self, other: &Effort) -> f64
+        ensures { result ≡ div binary64 (as_secs_f64 self.now.time) (as_secs_f64 other.now.time) }
+    {
         self.time.as_secs_f64() / other.time.as_secs_f64()
     }
 
     // How many times as many states were visited.
-    fn times_as_many(&self, other: &Effort) -> f64 {
+    fn times_as_many(&self, other: &Effort) -> f64
+        ensures { result ≡ div binary64 (of_int binary64 (pos self.now.visited)) (of_int binary64 (pos other.now.visited)) }
+    {
         nearest_u64_to_f64(self.visited) / nearest_u64_to_f64(other.visited)
     }
 }
