@@ -1,4 +1,4 @@
--- Why the front of a list that is taken is taken too. Assumes nothing.
+-- Why the front of a list that is taken is taken too, and what may be planned. Assumes nothing.
 use Rattle.std.proofs.Common.{◌≡◌, ℕ, ◌+◌, ◌-◌, ◌*◌, ◌/◌, ◌<◌, true, List, length, take, eq-eqb, Some, None, Option, Ok, Err, Result, sym, refl, ap, ◌∙◌, arith, slice_index}
 use Rattle.std.specs.Prelude.{is_none, IsOk}
 use Rattle.std.specs.Option.{option_map}
@@ -6,11 +6,11 @@ use Rattle.std.specs.Result.{result_err}
 use Rattle.std.proofs.lemmas.List.{get_or-take, length-take}
 use Rattle.passes.specs.declared.refusals.Refusal.{Refusal}
 use Rattle.passes.specs.declared.refusals.Refusal.TheVariants.{BadPass}
-use Rattle.passes.specs.Checks.{in_range}
+use Rattle.passes.specs.Checks.{in_range, dishes_ok}
 use Rattle.passes.specs.Numbers.{passes_in, pass_at, sound, begun, first_fault}
 use Rattle.passes.specs.Refusals.{or_else, refused, refused_with_room, room_refused, station_refused, list_refused}
 use Rattle.passes.proofs.Fours.{length-passes_in}
-use Rattle.passes.proofs.Taking.{fours, none_at_fault, place_is_first, sound_says, sound_from}
+use Rattle.passes.proofs.Taking.{fours, none_at_fault, place_is_first, sound_says, sound_from, station_ok}
 
 -- the numbers of a list that is taken are those of sound passes
 no_fault : (a : Option Refusal) (o : Option ℕ) → is_none (or_else a (option_map BadPass o)) ≡ true → (a ≡ None) × (o ≡ None)
@@ -70,3 +70,11 @@ module _ (turn : ℕ) (xs : List ℕ) (taken : is_none (refused 4 turn xs) ≡ t
   room_taken room h =
       let same : room ≡ length (passes_in xs) = h ∙ sym (length-passes_in xs) in
       rw (not_refused, same, eq-eqb (length (passes_in xs)) (length (passes_in xs)) refl) refl
+
+  -- nor is it for one dish
+  pub alone_taken : (room : ℕ) → room ≡ length xs / 4 → refused_with_room 1 turn xs room ≡ None
+  unfolding refused_with_room room_refused refused list_refused station_refused dishes_ok
+  alone_taken room h =
+      let turning = (station_ok 4 turn parts.0).1 in
+      let same : room ≡ length (passes_in xs) = h ∙ sym (length-passes_in xs) in
+      rw (turning, parts.1, same, eq-eqb (length (passes_in xs)) (length (passes_in xs)) refl) refl

@@ -17,12 +17,12 @@ const PAIRS: [u8; 6] = [3, 5, 6, 9, 10, 12];
 // What the lists of a shape have in common. Those from `AllMarks` on are dense but for what their names say.
 #[derive(Clone, Copy)]
 pub enum Shape {
-    // Passes of 5 to 15 minutes, each worth 1 to 100, that begin within 8 to 12 hours. All dishes, which take one or two minutes to turn, may
+    // 40 passes of 5 to 15 minutes, each worth 1 to 100, that begin within 8 to 12 hours. All dishes, which take one or two minutes to turn, may
     // follow all but every fourth pass, which has random marks.
     Ordinary,
-    // The same within 1 to 3 hours.
+    // 48 such passes within 1 to 3 hours. The other shapes have 48 too.
     Dense,
-    // Each pass overlaps each other.
+    // Passes of 10 to 15 minutes that begin within 10 minutes.
     Overlapping,
     // Every fourth pass lasts 30 to 90 minutes, and the others last 2 to 5.
     LongAndShort,

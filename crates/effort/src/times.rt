@@ -37,7 +37,7 @@ impl Way {
             Way::OneDish => {
                 let numbers = case.numbers.as_slice();
                 let mut room = vec![in alloc; 0; numbers.len() / 4]?;
-                let _worth = plan_one_dish(case.turn, numbers, room.as_mut_slice());
+                plan_one_dish(case.turn, numbers, room.as_mut_slice()).unwrap();
                 Ok(0)
             }
         }
