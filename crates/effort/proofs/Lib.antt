@@ -1,0 +1,5 @@
+pub mod Growing
+pub mod Fronts
+pub mod Middles
+pub mod Plainly
+pub mod Drawing

@@ -1,0 +1,4 @@
+pub mod Shapes
+pub mod Spreads
+pub mod Comparisons
+pub mod Ways

@@ -1,0 +1,11 @@
+-- The middle and the largest of some numbers. Assumes nothing: these are definitions.
+use Rattle.std.specs.Prelude.{ℕ, ◌*◌, ◌≤◌, List, length, count_by, nat_le, All, Contains}
+use Rattle.effort.specs.declared.spread.Spread.{Spread}
+
+-- both are numbers of the list; half of the list is no more than the median, and half no less, and none is more than the largest
+pub record SpreadOf (xs : List ℕ) (s : Spread) : Type 0 where
+  pub median : Contains xs s.median
+  pub half_below : length xs ≤ 2 * count_by (λ x. nat_le x s.median) xs
+  pub half_above : length xs ≤ 2 * count_by (λ x. nat_le s.median x) xs
+  pub largest : Contains xs s.largest
+  pub none_above : All (λ x. x ≤ s.largest) xs
