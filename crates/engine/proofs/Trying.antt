@@ -3,7 +3,7 @@ use Rattle.std.proofs.Common.{◌≡◌, ℕ, ◌+◌, ◌-◌, ◌<◌, ◌≤�
 use Rattle.std.proofs.lemmas.List.Elements.{All-set}
 use Rattle.std.proofs.lemmas.Bool.Decides.{nat_tests}
 use Rattle.std.proofs.lemmas.Bool.{both_ways, cases_Bool}
-use Rattle.engine.specs.Runs.{MoveLaws}
+use Rattle.engine.specs.Runs.{MoveLaws, leads}
 use Rattle.engine.specs.Problems.{Model, OrderLaws, Final, Covers, Answered}
 use Rattle.engine.specs.declared.seen.Seen.{Seen}
 use Rattle.engine.specs.Searching.{beats, Unbeaten, Holds, Improved, Passed, Known, choice_at}

@@ -159,9 +159,17 @@ fn the_most_without_neighbours(rt: HostRuntime) {
     let problem = Summed { gains: Apart };
     let mut seen = [None; 4];
     // with no table, 53 states are visited without the bound, and 44 without the first choice; the last table holds what the search before it left there
-    for (places, visited) in [(0, 30), (4, 17), (4, 17)] {
+    for (places, run, visited) in [
+        (0, [9; 6], 30),
+        (4, [9; 6], 17),
+        (4, [9; 6], 17),
+        // the room holds a run: the worst one, no run since two neighbours are chosen, and the best one
+        (4, [0; 6], 17),
+        (4, [1, 1, 0, 0, 0, 0], 17),
+        (4, [1, 0, 0, 1, 0, 1], 14),
+    ] {
         let mut made = [7; 6];
-        let mut room = [9; 6];
+        let mut room = run;
         assert_eq!(rt;
             gain_most(&problem, &mut made, &mut seen[..places], &mut room),
             Gained {

@@ -1,5 +1,5 @@
 // The entry: a best plan over all plans.
-ghost use Rattle.std.specs.Prelude.{◌≡◌, ◌<◌, length, MatchResult};
+ghost use Rattle.std.specs.Prelude.{◌≡◌, length, MatchResult};
 ghost use Rattle.std.specs.Result.{result_err};
 ghost use Rattle.engine.specs.Gaining.{BestGain};
 ghost use Rattle.passes.specs.Nights.{passes_of, station_of};
@@ -69,7 +69,7 @@ pub fn plan_counted(
     room: &mut [u8],
 ) -> Result<Counted, Refusal>
     ensures refusal { result_err result ≡ refused_with_room dishes turn passes.now (length room.old) }
-    ensures planned { MatchResult result (λ c. BestPlanWorth (station_of dishes turn) (passes_in passes.now) room.new c.worth × (0 < c.visited)) (λ _. room.new ≡ room.old) }
+    ensures planned { MatchResult result (λ c. BestPlanWorth (station_of dishes turn) (passes_in passes.now) room.new c.worth) (λ _. room.new ≡ room.old) }
 {
     let night = Night::read_for_room(dishes, turn, passes, room.len())?;
     Ok(plan_night(&night, room))
@@ -79,8 +79,7 @@ pub fn plan_counted(
 // Kept: the room stands beside the night, since it is the caller's and is lent to be written.
 fn plan_night(night: &Night, room: &mut [u8]) -> Counted
     requires one_each { length room.old ≡ length (passes_of night.now) }
-    ensures best { BestPlanWorth night.now.station (passes_of night.now) room.new result.worth }
-    ensures counted { 0 < result.visited }
+    ensures { BestPlanWorth night.now.station (passes_of night.now) room.new result.worth }
 {
     let station = night.station();
     // Kept: an array, of which the front is used, since there is no heap.
@@ -97,10 +96,10 @@ fn plan_night(night: &Night, room: &mut [u8]) -> Counted
 // Kept: the room stands beside the night, to be written.
 fn plan_each(night: Rounded, room: &mut [u8]) -> Counted
     requires one_each { length room.old ≡ length night.passes.now }
-    ensures best { BestGain (night_of night.entry.turns.now night.entry.passes.now) room.new result.worth }
-    ensures counted { 0 < result.visited }
+    ensures { BestGain (night_of night.entry.turns.now night.entry.passes.now) room.new result.worth }
 {
-    let prices = Auction::new(night).prices();
+    // The auction's plan is the first to be beaten.
+    let prices = Auction::new(night).run(room);
     let problem = Summed {
         gains: Priced::new(night, &prices),
     };

@@ -1,5 +1,5 @@
 // Prices at which the bound is low, found by an auction. Nothing rests on how low it is.
-ghost use Rattle.std.specs.Prelude.{◌≡◌, ℕ, ◌^◌, ◌<◌, ◌≤◌, length, slice_index};
+ghost use Rattle.std.specs.Prelude.{◌≡◌, ℕ, ◌*◌, ◌^◌, ◌<◌, ◌≤◌, length, slice_index};
 ghost use Rattle.pruning.specs.declared.rounding.TheConstants.{MOST_PASSES};
 ghost use Rattle.pruning.specs.declared.prices.TheConstants.{SCALE};
 ghost use Rattle.pruning.specs.Prices.{NoneAbove};
@@ -37,81 +37,107 @@ impl<'a> Auction<'a> {
     }
 }
 
+// Where a round stands: prices, and to which dish each pass is given, the first that asked for it.
+#[derive(Clone, Copy)]
+struct Round {
+    prices: [u64; MOST_PASSES],
+    given: [u8; MOST_PASSES],
+}
+
 impl Auction<'_> {
-    // The prices after all rounds.
-    pub fn prices(&self) -> [u64; MOST_PASSES]
+    // The prices after all rounds. The dishes to which passes were given in the round in which those passes were worth the most are left in the plan.
+    // Nothing is promised of it.
+    pub fn run(&self, plan: &mut [u8]) -> [u64; MOST_PASSES]
+        requires one_each { length plan.old ≡ length self.now.night.passes.now }
         ensures { NoneAbove SCALE self.now.night.passes.now result }
     {
         let mut prices = [0; MOST_PASSES];
         let mut step = FIRST_STEP;
-        for round in 0..ROUNDS {
-            prices = self.after_round(round, step, &prices);
+        let mut most = 0;
+        for first in 0..ROUNDS {
+            let round = self.round(first, step, &prices);
+            prices = round.prices;
             step = step * 59 / 64;
+            let worth = self.worth_of(&round);
+            if worth > most {
+                most = worth;
+                plan.copy_from_slice(&round.given[..plan.len()]);
+            }
         }
         prices
     }
 
-    // The prices after a round, in which each dish asks once. Another begins each time.
-    fn after_round(
-        &self,
-        round: usize,
-        step: u64,
-        prices: &[u64; MOST_PASSES],
-    ) -> [u64; MOST_PASSES]
+    // A round, in which each dish asks once. Another begins each time.
+    fn round(&self, first: usize, step: u64, prices: &[u64; MOST_PASSES]) -> Round
         requires before { NoneAbove SCALE self.now.night.passes.now prices.now }
-        ensures { NoneAbove SCALE self.now.night.passes.now result }
+        ensures { NoneAbove SCALE self.now.night.passes.now result.prices }
     {
         let count = self.night.turns.len();
-        let mut prices = *prices;
+        let mut round = Round {
+            prices: *prices,
+            given: [0; MOST_PASSES],
+        };
         for turn in 0..count {
-            let dish = (round % count + turn) % count;
-            prices = self.after_asking(dish, step, &prices);
+            let dish = (first % count + turn) % count;
+            round = self.after_asking(dish, step, &round);
         }
-        prices
+        round
     }
 
-    // The prices after a dish has asked for passes.
-    fn after_asking(
-        &self,
-        dish: usize,
-        step: u64,
-        prices: &[u64; MOST_PASSES],
-    ) -> [u64; MOST_PASSES]
+    // The round after a dish has asked for passes.
+    fn after_asking(&self, dish: usize, step: u64, round: &Round) -> Round
         requires there { dish < length self.now.night.turns.now }
-        requires before { NoneAbove SCALE self.now.night.passes.now prices.now }
-        ensures { NoneAbove SCALE self.now.night.passes.now result }
+        requires before { NoneAbove SCALE self.now.night.passes.now round.now.prices }
+        ensures { NoneAbove SCALE self.now.night.passes.now result.prices }
     {
         let passes = self.night.passes;
         let count = passes.len();
-        let gains = less_prices(passes, &prices[..count]);
+        let gains = less_prices(passes, &round.prices[..count]);
         let table = self.night.table_of(dish, &gains[..count]);
         let mut asked = [0; MOST_PASSES];
         let asked = &mut asked[..count];
         self.night
             .alone(dish)
             .follow_table(&table[..count + 1], asked);
-        self.moved(asked, step, prices)
+        self.moved(asked, step, round)
     }
 
-    // The prices, once a dish has asked for the passes that its plan follows.
+    // The round, once a dish has asked for the passes that its plan follows.
     // Kept: by index, as the rooms are arrays, of which the front is used.
-    fn moved(&self, asked: &[u8], step: u64, prices: &[u64; MOST_PASSES]) -> [u64; MOST_PASSES]
+    fn moved(&self, asked: &[u8], step: u64, round: &Round) -> Round
         requires one_each { length asked.now ≡ length self.now.night.passes.now }
-        requires before { NoneAbove SCALE self.now.night.passes.now prices.now }
-        ensures { NoneAbove SCALE self.now.night.passes.now result }
+        requires before { NoneAbove SCALE self.now.night.passes.now round.now.prices }
+        ensures { NoneAbove SCALE self.now.night.passes.now result.prices }
     {
         let others = (self.night.turns.len() as u64).saturating_sub(1);
-        let mut moved = *prices;
+        let mut prices = round.prices;
+        let mut given = round.given;
         for (i, pass) in self.night.passes.iter().enumerate() {
             let change = self.strides[i].saturating_mul(step) / PARTS;
-            moved[i] = if asked[i] > 0 {
+            if asked[i] > 0 {
                 let rise = change.saturating_mul(others);
-                prices[i].saturating_add(rise).min(full_price(pass))
+                prices[i] = prices[i].saturating_add(rise).min(full_price(pass));
+                if given[i] == 0 {
+                    given[i] = asked[i];
+                }
             } else {
-                prices[i].saturating_sub(change)
-            };
+                prices[i] = prices[i].saturating_sub(change);
+            }
         }
-        moved
+        Round { prices, given }
+    }
+
+    // What the passes that are given are worth together.
+    fn worth_of(&self, round: &Round) -> u64
+        ensures { result ≤ 128 * 2 ^ 32 }
+    {
+        let mut worth = 0;
+        for (i, pass) in self.night.passes.iter().enumerate() {
+            if round.given[i] > 0 {
+                worth += pass.worth as u64;
+            }
+        }
+        worth
     }
 }
 

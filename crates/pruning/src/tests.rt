@@ -24,13 +24,13 @@ fn by_eights<const N: usize>() -> [Pass; N]
 // What is gained at most by dishes that take so long to turn, and how many states are visited for it.
 fn gained(turns: &[u32], passes: &[Pass]) -> Option<Gained> {
     let night = Rounded::new(turns, passes)?;
-    let prices = Auction::new(night).prices();
+    let count = passes.len();
+    let mut room = [9; MOST_PASSES];
+    let prices = Auction::new(night).run(&mut room[..count]);
     let problem = Summed {
         gains: Priced::new(night, &prices),
     };
     let mut made = [0; MOST_PASSES];
-    let mut room = [9; MOST_PASSES];
-    let count = passes.len();
     Some(gain_most(
         &problem,
         &mut made[..count],
@@ -44,10 +44,10 @@ fn eight_dishes(rt: HostRuntime) {
     let passes = by_eights::<128>();
     for (turns, followed, visited) in [
         // all have turned when the next eight begin
-        ([0, 10, 2, 3, 4, 5, 6, 7], 128, 130),
+        ([0, 10, 2, 3, 4, 5, 6, 7], 128, 0),
         // all but the last, which follows every other one
-        ([0, 10, 2, 3, 4, 5, 6, 11], 120, 129),
-        ([11; 8], 64, 129),
+        ([0, 10, 2, 3, 4, 5, 6, 11], 120, 0),
+        ([11; 8], 64, 0),
     ] {
         let most = Some(followed * u32::MAX as u64);
         assert_eq!(rt; gained(&turns, &passes), Some(Gained { most, visited }));

@@ -27,10 +27,10 @@ invariant_of-rounded c =
       in_time = rw c.passes.ensures (in_time_from_checked n.station (passes_of n) n.ok);
     }
 
-pub returns-clause-best : goal.returns-clause-best
-returns-clause-best c =
+pub returns : goal.returns
+returns c =
     let n = c.args.night.now in
     let s = c.station-station.result in
-    let few = four_dishes (goal.at.returns-clause-best c).After-station-station in
+    let few = four_dishes (goal.at.returns c).After-station-station in
     let same_turns = take-replicate s.dishes 4 s.turn few ∙ ap turns_of c.station-station.ensures in
-    planned_from_gain n.station (passes_of n) n.ok c.plan_each.new.room c.plan_each.result.worth (rw (same_turns, c.passes.ensures) at c.plan_each.ensures.best)
+    planned_from_gain n.station (passes_of n) n.ok c.plan_each.new.room c.plan_each.result.worth (rw (same_turns, c.passes.ensures) at c.plan_each.ensures)

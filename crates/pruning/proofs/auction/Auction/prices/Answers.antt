@@ -1,6 +1,0 @@
-use Rattle.std.proofs.Common.{arith}
-use Rattle.pruning.proofs.Adding.{no_prices}
-use Rattle.pruning.proofs.auction.Auction.prices.Goals as goal
-
-pub loop-round-init : goal.loop-round-init
-loop-round-init c = (no_prices c.args.self.now.night.passes.now 1024 128 c.args.self.now.night.few_passes, omega arith)
