@@ -1,9 +1,9 @@
 -- How many states are visited. Assumes nothing: these are definitions.
-use Rattle.std.specs.Prelude.{◌≡◌, ℕ, ◌<◌}
+use Rattle.std.specs.Prelude.{◌≡◌, ℕ, ⊤}
 use Rattle.effort.specs.declared.times.Way.{Way}
 use Rattle.effort.specs.declared.times.Way.TheVariants.{OneDish}
 
--- so many may be by the way: none by the one that doesn't search, else at least one
+-- so many may be by the way: none by the one that doesn't search
 abbrev pub VisitsBy : Way → ℕ → Type 0
 VisitsBy OneDish n = n ≡ 0
-VisitsBy _ n = 0 < n
+VisitsBy _ n = ⊤

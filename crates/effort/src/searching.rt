@@ -1,5 +1,5 @@
 // A list planned in two ways.
-ghost use Rattle.std.specs.Prelude.{◌≡◌, ◌<◌, IfOk, IfSome, IsSome};
+ghost use Rattle.std.specs.Prelude.{◌≡◌, IfOk, IfSome, IsSome};
 ghost use Rattle.effort.specs.Comparisons.{BestOf};
 
 use crate::cases::{Case, DISHES};
@@ -10,18 +10,17 @@ use std::alloc::{AllocError, Global};
 
 // By the planner.
 pub fn planned(alloc: Global, case: &Case) -> Result<Counted, AllocError>
-    ensures worth { IfOk result (λ counted. BestOf case.now.turn case.now.numbers.items counted.worth) }
-    ensures visited { IfOk result (λ counted. 0 < counted.visited) }
+    ensures { IfOk result (λ counted. BestOf case.now.turn case.now.numbers.items counted.worth) }
 {
     let numbers = case.numbers.as_slice();
     let mut room = vec![in alloc; 0; numbers.len() / 4]?;
     Ok(plan_counted(DISHES, case.turn, numbers, room.as_mut_slice()).unwrap())
 }
 
-// By the plain search, which goes through the seconds from which dishes are free, knows no prices and remembers no states.
+// By the plain search, which goes through the seconds from which dishes are free, knows no prices and remembers no states. It begins with a room that
+// holds no run.
 pub fn searched(alloc: Global, case: &Case) -> Result<Gained, AllocError>
     ensures some { IfOk result (λ gained. IsSome gained.most) }
-    ensures visited { IfOk result (λ gained. 0 < gained.visited) }
     ensures worth { IfOk result (λ gained. IfSome gained.most (BestOf case.now.turn case.now.numbers.items)) }
 {
     let night = Night::read(DISHES, case.turn, case.numbers.as_slice()).unwrap();
@@ -30,6 +29,6 @@ pub fn searched(alloc: Global, case: &Case) -> Result<Gained, AllocError>
         gains: Scheduling::new(&turns, night.passes()),
     };
     let mut made = vec![in alloc; 0; night.passes().len()]?;
-    let mut room = vec![in alloc; 0; night.passes().len()]?;
+    let mut room = vec![in alloc; u8::MAX; night.passes().len()]?;
     Ok(gain_most(&problem, made.as_mut_slice(), &mut [], room.as_mut_slice()))
 }

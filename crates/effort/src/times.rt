@@ -1,7 +1,7 @@
 // How long planning takes, beside other ways to plan the same lists.
-ghost use Rattle.std.specs.Prelude.{◌≡◌, pos, IfOk, length, vec_len};
+ghost use Rattle.std.specs.Prelude.{◌≡◌, IfOk, length, vec_len};
 ghost use Rattle.std.specs.Float.{binary64};
-ghost use Rattle.std.specs.Float.Ieee.{div, of_int};
+ghost use Rattle.std.specs.Float.Ieee.{div};
 ghost use Rattle.std.specs.Duration.{as_secs_f64};
 ghost use Rattle.effort.specs.Ways.{VisitsBy};
 
@@ -11,7 +11,6 @@ use crate::spread::Spread;
 use capacity::plan_one_dish;
 use std::alloc::{AllocError, Global};
 use std::io;
-use std::num::nearest_u64_to_f64;
 use std::time::{Duration, Instant};
 
 // How many passes of a list the plain search is given.
@@ -81,13 +80,6 @@ impl Effort {
     {
         self.time.as_secs_f64() / other.time.as_secs_f64()
     }
-
-    // How many times as many states were visited.
-    fn times_as_many(&self, other: &Effort) -> f64
-        ensures { result ≡ div binary64 (of_int binary64 (pos self.now.visited)) (of_int binary64 (pos other.now.visited)) }
-    {
-        nearest_u64_to_f64(self.visited) / nearest_u64_to_f64(other.visited)
-    }
 }
 
 // Prints how long the planner takes over lists beside one dish, and the plain search over their fronts beside the planner.
@@ -103,9 +95,9 @@ pub fn print_times(rt: &HostRuntime, cases: &[Case]) -> io::Result<()> {
     let planner = Effort::of(rt, Way::Planner, fronts.as_slice())?;
     let plain = Effort::of(rt, Way::PlainSearch, fronts.as_slice())?;
     let long = plain.times_as_long(&planner);
-    let many = plain.times_as_many(&planner);
     println!(rt;
-        "  the plain search of {FRONT} passes: {long:.2} times as long, {many:.2} times as many states"
+        "  the plain search of {FRONT} passes: {long:.2} times as long, {} states for {}",
+        plain.visited, planner.visited
     )
 }
 

@@ -7,7 +7,7 @@ returns c =
     let searched = c.in_ok-searched.ensures in
     record {
       planned = c.in_ok-planned.planned.worth;
-      planned_best = rw (front.turn, front.numbers) at planned.worth;
+      planned_best = rw (front.turn, front.numbers) at planned;
       searched = c.in_ok-searched.searched.most;
       searched_some = searched.some;
       searched_best = rw (front.turn, front.numbers) at searched.worth;

@@ -9,6 +9,6 @@ unwrap-requires c =
     let told = rw c.as_slice-numbers.ensures.value at c.plan_counted.ensures.refusal in
     ok_if_not_refused _ (told ∙ room_taken case.turn case.numbers.items case.taken _ (omega (arith, c.as_mut_slice.ensures.len, c.in_ok-room.ensures.len, c.as_slice-numbers.ensures.len)))
 
-pub returns-clause-worth : goal.returns-clause-worth
-returns-clause-worth c =
-    best_worth _ _ c.plan_counted.new.room _ (rw (c.unwrap.ensures, c.as_slice-numbers.ensures.value) at c.plan_counted.ensures.planned).0
+pub returns : goal.returns
+returns c =
+    best_worth _ _ c.plan_counted.new.room _ (rw (c.unwrap.ensures, c.as_slice-numbers.ensures.value) at c.plan_counted.ensures.planned)
