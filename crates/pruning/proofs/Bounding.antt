@@ -4,7 +4,7 @@ use Rattle.std.specs.Prelude.{slice_index}
 use Rattle.std.proofs.lemmas.Bool.{cases_eq}
 use Rattle.std.proofs.lemmas.Bool.Decides.{nat_tests}
 use Rattle.engine.specs.Runs.{Way}
-use Rattle.engine.specs.Gaining.{gained}
+use Rattle.engine.specs.Gaining.{gained, Bound}
 use Rattle.engine.proofs.Leading.{leads_first}
 use Rattle.passes.specs.declared.model.Pass.{Pass}
 use Rattle.passes.specs.Rule.{nth}
@@ -96,3 +96,9 @@ module _ (turns : List ℕ) (ps : List Pass) (few : length turns ≤ MOST_DISHES
       let rest = bounded cs (i + 1) first.0 e up₁ (record { one_each = omega (arith, w.one_each); ends = first.2 }) in
       let here = ahead_then i c s within up went.0 in
       rw first.1 (omega (arith, mul-add n ((rounded_night turns ps).gain i c s) (gained (rounded_night turns ps).moves.step (rounded_night turns ps).gain (i + 1) first.0 cs), rest, here, ap ahead went.1))
+
+-- without passes there is nothing to gain
+pub nothing_bound : (turns : List ℕ) (ps : List Pass) (s : NextPasses) → length ps ≡ 0 → Bound (rounded_night turns ps) 0 s 0
+unfolding gained
+nothing_bound turns ps s none [] e w = omega arith
+nothing_bound turns ps s none (c ∷ cs) e w = absurd (omega (arith, w.one_each, none))

@@ -2,10 +2,13 @@
 ghost use Rattle.std.specs.Prelude.{◌≡◌, ℕ, ◌*◌, ◌^◌, ◌<◌, ◌≤◌, length, slice_index};
 ghost use Rattle.pruning.specs.declared.rounding.TheConstants.{MOST_PASSES};
 ghost use Rattle.pruning.specs.declared.prices.TheConstants.{SCALE};
+ghost use Rattle.engine.specs.Gaining.{Bound};
 ghost use Rattle.pruning.specs.Prices.{NoneAbove};
+ghost use Rattle.pruning.specs.Rounding.{rounded_night};
 
-use crate::prices::{full_price, less_prices};
+use crate::prices::{Priced, full_price, less_prices};
 use crate::rounding::{MOST_PASSES, Rounded};
+use engine::{Decisions, Gains};
 use passes::Pass;
 
 const ROUNDS: usize = 100;
@@ -14,6 +17,9 @@ const ROUNDS: usize = 100;
 const PARTS: u64 = 1 << 16;
 
 const FIRST_STEP: u64 = PARTS / 2;
+
+// Once in so many rounds it is looked whether the best plan so far is worth as much as any.
+const BETWEEN_BOUNDS: usize = 8;
 
 // At first nothing has a price. In each round, each dish in turn asks for the passes by which it alone gains the most at the prices. Then the price of
 // each pass that it asks for rises, and that of each other pass falls, so that a pass for which one dish asks in a round keeps its price. Steps become
@@ -63,8 +69,22 @@ impl Auction<'_> {
                 most = worth;
                 plan.copy_from_slice(&round.given[..plan.len()]);
             }
+            if first % BETWEEN_BOUNDS == 0 && self.bound(&prices) <= most {
+                break;
+            }
         }
         prices
+    }
+
+    // Above this no plan is worth.
+    fn bound(&self, prices: &[u64; MOST_PASSES]) -> u64
+        ensures { let r = self.now.night in Bound (rounded_night r.turns.now r.passes.now) 0 (rounded_night r.turns.now r.passes.now).moves.start result }
+    {
+        if self.night.passes.is_empty() {
+            return 0;
+        }
+        let priced = Priced::new(self.night, prices);
+        priced.bound(0, priced.start())
     }
 
     // A round, in which each dish asks once. Another begins each time.
