@@ -6,3 +6,7 @@ use Rattle.passes.specs.Rule.{nth}
 -- each pass of a list is worth a multiple of the unit
 abbrev pub WholeIn : (unit : ℕ) → List Pass → Type 0
 WholeIn unit ps = (k : ℕ) → k < length ps → (nth ps k).worth % unit ≡ 0
+
+-- no pass of a list is worth anything
+abbrev pub WorthNothing : List Pass → Type 0
+WorthNothing ps = (k : ℕ) → k < length ps → (nth ps k).worth ≡ 0

@@ -1,7 +1,7 @@
 // The unit in which passes are worth something: every plan is worth a multiple of it.
-ghost use Rattle.std.specs.Prelude.{ℕ, ◌<◌, length};
+ghost use Rattle.std.specs.Prelude.{◌≡◌, ℕ, ◌%◌, ◌<◌, ◌⊎◌};
 ghost use Rattle.std.specs.Int.{IsGcd};
-ghost use Rattle.pruning.specs.Units.{WholeIn};
+ghost use Rattle.pruning.specs.Units.{WholeIn, WorthNothing};
 
 use passes::Pass;
 
@@ -9,6 +9,7 @@ use passes::Pass;
 pub(crate) fn unit_of(passes: &[Pass]) -> u64
     ensures positive { 0 < result }
     ensures whole { WholeIn result passes.now }
+    ensures greatest { (g : ℕ) → WholeIn g passes.now → (result % g ≡ 0) ⊎ WorthNothing passes.now }
 {
     let mut unit = 0;
     for pass in passes {
