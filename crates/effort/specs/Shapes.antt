@@ -34,11 +34,11 @@ abbrev pub BeginOf : Shape → (i : ℕ) → ℕ → Type 0
 BeginOf Staggered i x = Within (60 * i) (60 * i + 10) x
 BeginOf _ i x = 0 ≤ x
 
--- how long pass i may last
+-- how long pass i may last: longer than begins lie apart, where passes overlap
 abbrev pub LengthOf : Shape → (i : ℕ) → ℕ → Type 0
-LengthOf Overlapping i n = Within 600 900 n
+LengthOf Overlapping i n = Within 601 900 n
 LengthOf LongAndShort i n = MatchBool (i % 4 == 0) (Within 1800 5400 n) (Within 120 300 n)
-LengthOf Staggered i n = n ≡ 1200
+LengthOf Staggered i n = n ≡ 1260
 LengthOf _ i n = Within 300 900 n
 
 -- what a pass may be worth that lasts n seconds

@@ -68,7 +68,7 @@ fn visits(alloc: Global, cases: &[Case]) -> Result<Vec<u64>, AllocError>
     Ok(visits)
 }
 
-// Compares the planner with the plain search on the front of each list.
+// Compares the planner with the plain search on the front of each list. That each comparison is of one of the lists is promised, and not of which.
 fn compare_all(alloc: Global, cases: &[Case]) -> Result<Vec<Comparison>, AllocError>
     ensures count { IfOk result (λ comparisons. vec_len comparisons ≡ length cases.now) }
     ensures compared { IfOk result (λ comparisons. All (ComparedIn cases.now) comparisons.items) }

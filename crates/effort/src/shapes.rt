@@ -14,19 +14,20 @@ const HOUR: u32 = 3600;
 // The marks of two dishes.
 const PAIRS: [u8; 6] = [3, 5, 6, 9, 10, 12];
 
-// What the lists of a shape have in common. Those from `AllMarks` on are dense but for what their names say.
+// What the lists of a shape have in common. All but the ordinary ones have 48 passes, and marks, worths and turning like these but for what their names
+// say; those from `AllMarks` on have the times of dense ones.
 #[derive(Clone, Copy)]
 pub enum Shape {
     // 40 passes of 5 to 15 minutes, each worth 1 to 100, that begin within 8 to 12 hours. All dishes, which take one or two minutes to turn, may
     // follow all but every fourth pass, which has random marks.
     Ordinary,
-    // 48 such passes within 1 to 3 hours. The other shapes have 48 too.
+    // Such passes within 1 to 3 hours.
     Dense,
-    // Passes of 10 to 15 minutes that begin within 10 minutes.
+    // Passes of more than 10 minutes and up to 15 that begin within 10 minutes, so that any two overlap.
     Overlapping,
-    // Every fourth pass lasts 30 to 90 minutes, and the others last 2 to 5.
+    // Within 1 to 4 hours every fourth pass lasts 30 to 90 minutes, and the others last 2 to 5.
     LongAndShort,
-    // Each pass begins about a minute after the one before it, and lasts 20 minutes.
+    // Each pass begins about a minute after the one before it, and lasts 21 minutes, so that it overlaps the next twenty.
     Staggered,
     AllMarks,
     HalfMarks,
@@ -34,10 +35,13 @@ pub enum Shape {
     // A pass has the mark of one dish, and every third pass has all.
     FewMarks,
     EqualWorths,
+    // 1 to 5.
     SmallWorths,
+    // 1 to 1,000,000.
     LargeWorths,
     WorthsByLength,
     NoTurning,
+    // 2,000 to 20,000 seconds.
     HugeTurning,
 }
 
@@ -138,10 +142,10 @@ impl Shape {
         ensures shape { LengthOf self place result }
     {
         match self {
-            Shape::Overlapping => rng.random_range(10 * MINUTE..=15 * MINUTE),
+            Shape::Overlapping => rng.random_range(10 * MINUTE + 1..=15 * MINUTE),
             Shape::LongAndShort if place % 4 == 0 => rng.random_range(30 * MINUTE..=90 * MINUTE),
             Shape::LongAndShort => rng.random_range(2 * MINUTE..=5 * MINUTE),
-            Shape::Staggered => 20 * MINUTE,
+            Shape::Staggered => 21 * MINUTE,
             _ => rng.random_range(5 * MINUTE..=15 * MINUTE),
         }
     }

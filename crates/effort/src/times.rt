@@ -14,7 +14,7 @@ use std::io;
 use std::time::{Duration, Instant};
 
 // How many passes of a list the plain search is given.
-const FRONT: u8 = 12;
+const TIMED: u8 = 12;
 
 // A way to plan a list.
 #[derive(Clone, Copy)]
@@ -96,7 +96,7 @@ pub fn print_times(rt: &HostRuntime, cases: &[Case]) -> io::Result<()> {
     let plain = Effort::of(rt, Way::PlainSearch, fronts.as_slice())?;
     let long = plain.times_as_long(&planner);
     println!(rt;
-        "  the plain search of {FRONT} passes: {long:.2} times as long, {} states for {}",
+        "  the plain search of {TIMED} passes: {long:.2} times as long, {} states for {}",
         plain.visited, planner.visited
     )
 }
@@ -107,7 +107,7 @@ fn fronts(alloc: Global, cases: &[Case]) -> Result<Vec<Case>, AllocError>
 {
     let mut fronts = Vec::new(alloc);
     for case in cases {
-        fronts.push(case.front(alloc, FRONT)?)?;
+        fronts.push(case.front(alloc, TIMED)?)?;
     }
     Ok(fronts)
 }

@@ -1,8 +1,8 @@
 -- Why sequences of decisions that differ in their states alone have the same runs. Assumes nothing.
-use Rattle.std.proofs.Common.{◌≡◌, ℕ, ◌+◌, ◌<◌, ◌≤◌, List, [], ◌∷◌, length, Some, None, Option, sym, refl, ap, ◌∙◌, add-zero, arith}
-use Rattle.std.specs.Option.{option_map, option_map_or, option_and_then}
-use Rattle.engine.specs.Runs.{MoveLaws, leads, Run}
-use Rattle.engine.specs.Gaining.{Gaining, gained, gained_by, BestGain, GainAnswered}
+use Rattle.std.proofs.Common.{◌≡◌, ℕ, ◌+◌, ◌≤◌, List, [], ◌∷◌, length, Some, None, Option, sym, refl, ap, ◌∙◌, add-zero, arith}
+use Rattle.std.specs.Option.{option_map, option_and_then}
+use Rattle.engine.specs.Runs.{MoveLaws, leads}
+use Rattle.engine.specs.Gaining.{Gaining, gained, BestGain, GainAnswered}
 use Rattle.engine.specs.Mapping.{Mapping, SameRuns}
 use Rattle.engine.specs.Summing.{mapped_some}
 use Rattle.engine.proofs.Leading.{leads_first}

@@ -173,7 +173,8 @@ pub struct Gained {
 }
 
 // Leaves a run that gains the most in the room and answers how much that is, or answers that there is no run at all and leaves the room as it
-// was. If the room holds a run already, that is the first one to be beaten. What is left in `made` and in the table `seen` means nothing, and neither does what the table holds before.
+// was. If the room holds a run already, that is the first one to be beaten, and nothing at all may be visited. What is left in `made` and in the table
+// `seen` means nothing, and neither does what the table holds before.
 pub fn gain_most<G: Gains>(
     problem: &Summed<G>,
     made: &mut [u8],

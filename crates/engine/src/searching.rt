@@ -63,7 +63,8 @@ impl<P: Problem> Exploring<'_, P> {
         remember(self.seen, problem.slot(stage, state), stage, state);
     }
 
-    // Whether it is sure that no way on from a state beats the best so far, by the problem's bound or by the table.
+    // Whether it is sure that no way on from a state beats the best so far, by the problem's bound or by the table. It isn't while there is no best and
+    // nothing in the table.
     fn is_left_out(&self, stage: usize, state: P::State) -> bool
         requires within { stage < (P.moves self.now.problem.now).stages }
         requires fine { (P.moves self.now.problem.now).fine stage state }
@@ -80,7 +81,7 @@ impl<P: Problem> Exploring<'_, P> {
         self.is_covered(stage, state)
     }
 
-    // Whether what stands at the state's place in the table covers it.
+    // Whether what stands at the state's place in the table covers it. Nothing does in an empty table.
     fn is_covered(&self, stage: usize, state: P::State) -> bool
         requires within { stage < (P.moves self.now.problem.now).stages }
         requires fine { (P.moves self.now.problem.now).fine stage state }
@@ -142,7 +143,8 @@ fn choice_at(first: u8, turn: u8) -> u8
 }
 
 // Leaves a best run in the room and answers its final state, or answers that there is no run at all and leaves the room as it was. If the room holds
-// a run already, that is the first one to be beaten: the better it is, the more is left out. What is left in `made`, where the search writes the choices that it tries, and in the table `seen` means nothing, and neither does what the table holds before.
+// a run already, that is the first one to be beaten: the better it is, the more is left out, and nothing at all may be visited. What is left in
+// `made`, where the search writes the choices that it tries, and in the table `seen` means nothing, and neither does what the table holds before.
 pub fn search<P: Problem>(
     problem: &P,
     made: &mut [u8],

@@ -1,7 +1,6 @@
 -- Why rounding up changes no run. Assumes nothing.
-use Rattle.std.proofs.Common.{◌≡◌, ◌≢◌, ℕ, ◌+◌, ◌-◌, ◌<◌, ◌≤◌, Bool, true, false, List, length, replicate, Some, None, Option, sym, refl, ap, ◌∙◌, ⊎_elim, arith}
+use Rattle.std.proofs.Common.{◌≡◌, ◌≢◌, ℕ, ◌+◌, ◌-◌, ◌<◌, ◌≤◌, true, false, List, length, replicate, Some, None, Option, sym, refl, ap, ◌∙◌, ⊎_elim, arith}
 use Rattle.std.specs.Prelude.{slice_index}
-use Rattle.std.specs.List.{range_with_len}
 use Rattle.std.specs.Option.{option_map}
 use Rattle.std.proofs.lemmas.Bool.{cases_eq, cases_lt, cases_Bool}
 use Rattle.std.proofs.lemmas.Bool.Decides.{nat_tests}
@@ -15,12 +14,12 @@ use Rattle.capacity.specs.Order.{InTime}
 use Rattle.pruning.specs.declared.rounding.TheConstants.{MOST_DISHES}
 use Rattle.pruning.specs.declared.rounding.NextPasses.{NextPasses}
 use Rattle.pruning.specs.Rounding.{suits, next_pass, each_dish, free_after, next_then, allowed, go_on, rounded_night}
-use Rattle.pruning.specs.Suiting.{NoneSuited, next_is, next_none, next_within, next_suits, each_dish_at}
+use Rattle.pruning.specs.Suiting.{next_is, next_none, next_within, next_suits, each_dish_at}
 use Rattle.pruning.specs.Lawful.{then_followed, then_waits, then_kept}
 use Rattle.planner.specs.declared.scheduling.FreeFrom.{FreeFrom}
 use Rattle.planner.specs.Lawful.{night_moves}
 use Rattle.planner.specs.Nights.{can_follow, after_following, decide, night}
-use Rattle.planner.specs.Statements.{rounded_up, ChangesNoRun, RoundingUp}
+use Rattle.planner.specs.Statements.{rounded_up, RoundingUp}
 
 -- two states in which each dish has the same
 each_same : (f g : ℕ → ℕ) → ((d : ℕ) → d < MOST_DISHES → f d ≡ g d) → each_dish f ≡ each_dish g

@@ -54,7 +54,8 @@ pub fn try_plan(dishes: u64, turn: u64, passes: &[u32], room: &mut [u8]) -> Resu
     plan_counted(dishes, turn, passes, room).map(|counted| counted.worth)
 }
 
-// What a best plan is worth, and how many states the search visited for it.
+// What a best plan is worth, and how many states the search visited for it: none where the first plan was seen to be a best one. What finding prices and
+// that plan took isn't counted.
 #[derive(Clone, Copy, Debug, PartialEq)]
 pub struct Counted {
     pub worth: u64,
@@ -98,11 +99,12 @@ fn plan_each(night: Rounded, room: &mut [u8]) -> Counted
     requires one_each { length room.old ≡ length night.passes.now }
     ensures { BestGain (night_of night.entry.turns.now night.entry.passes.now) room.new result.worth }
 {
-    // The auction's plan is the first to be beaten.
-    let prices = Auction::new(night).run(room);
+    let bids = Auction::new(night).run();
     let problem = Summed {
-        gains: Priced::new(night, &prices),
+        gains: Priced::new(night, &bids.prices),
     };
+    // The auction's plan is the first to be beaten.
+    room.copy_from_slice(&bids.given[..room.len()]);
     let mut made = [0; MOST_PASSES];
     let mut seen = [None; PLACES];
     let gained = gain_most(&problem, &mut made[..room.len()], &mut seen, room);

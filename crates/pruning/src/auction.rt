@@ -22,8 +22,8 @@ const FIRST_STEP: u64 = PARTS / 2;
 const BETWEEN_BOUNDS: usize = 8;
 
 // At first nothing has a price. In each round, each dish in turn asks for the passes by which it alone gains the most at the prices. Then the price of
-// each pass that it asks for rises, and that of each other pass falls, so that a pass for which one dish asks in a round keeps its price. Steps become
-// shorter and shorter.
+// each pass that it asks for rises, and that of each other pass falls, so that a pass for which one dish asks in a round comes back to its price, unless that
+// can't fall or rise so far. Steps become shorter and shorter.
 #[derive(Drop)]
 pub struct Auction<'a> {
     night: Rounded<'a>,
@@ -43,40 +43,41 @@ impl<'a> Auction<'a> {
     }
 }
 
-// Where a round stands: prices, and to which dish each pass is given, the first that asked for it.
+// Where a round stands, or the auction ends: prices, and to which dish each pass is given, the first that asked for it, by the numbers of plans.
+// Kept: places for the most passes, since memory is fixed.
 #[derive(Clone, Copy)]
-struct Round {
-    prices: [u64; MOST_PASSES],
-    given: [u8; MOST_PASSES],
+pub struct Bids {
+    pub prices: [u64; MOST_PASSES],
+    pub given: [u8; MOST_PASSES],
 }
 
 impl Auction<'_> {
-    // The prices after all rounds. The dishes to which passes were given in the round in which those passes were worth the most are left in the plan.
-    // Nothing is promised of it.
-    pub fn run(&self, plan: &mut [u8]) -> [u64; MOST_PASSES]
-        requires one_each { length plan.old ≡ length self.now.night.passes.now }
-        ensures { NoneAbove SCALE self.now.night.passes.now result }
+    // The prices after the last round, and the dishes to which passes were given in the round in which those passes were worth the most. Nothing is
+    // promised of these.
+    pub fn run(&self) -> Bids
+        ensures { NoneAbove SCALE self.now.night.passes.now result.prices }
     {
         let mut prices = [0; MOST_PASSES];
+        let mut given = [0; MOST_PASSES];
         let mut step = FIRST_STEP;
         let mut most = 0;
-        for first in 0..ROUNDS {
-            let round = self.round(first, step, &prices);
-            prices = round.prices;
+        for number in 0..ROUNDS {
+            let bids = self.round(number, step, &prices);
+            prices = bids.prices;
             step = step * 59 / 64;
-            let worth = self.worth_of(&round);
+            let worth = self.worth_of(&bids);
             if worth > most {
                 most = worth;
-                plan.copy_from_slice(&round.given[..plan.len()]);
+                given = bids.given;
             }
-            if first % BETWEEN_BOUNDS == 0 && self.bound(&prices) <= most {
+            if number % BETWEEN_BOUNDS == 0 && self.bound(&prices) <= most {
                 break;
             }
         }
-        prices
+        Bids { prices, given }
     }
 
-    // Above this no plan is worth.
+    // No plan is worth more than this.
     fn bound(&self, prices: &[u64; MOST_PASSES]) -> u64
         ensures { let r = self.now.night in Bound (rounded_night r.turns.now r.passes.now) 0 (rounded_night r.turns.now r.passes.now).moves.start result }
     {
@@ -87,51 +88,51 @@ impl Auction<'_> {
         priced.bound(0, priced.start())
     }
 
-    // A round, in which each dish asks once. Another begins each time.
-    fn round(&self, first: usize, step: u64, prices: &[u64; MOST_PASSES]) -> Round
+    // A round, in which each dish asks once. In each round another one asks first.
+    fn round(&self, number: usize, step: u64, prices: &[u64; MOST_PASSES]) -> Bids
         requires before { NoneAbove SCALE self.now.night.passes.now prices.now }
         ensures { NoneAbove SCALE self.now.night.passes.now result.prices }
     {
         let count = self.night.turns.len();
-        let mut round = Round {
+        let mut bids = Bids {
             prices: *prices,
             given: [0; MOST_PASSES],
         };
         for turn in 0..count {
-            let dish = (first % count + turn) % count;
-            round = self.after_asking(dish, step, &round);
+            let dish = (number % count + turn) % count;
+            bids = self.after_asking(dish, step, &bids);
         }
-        round
+        bids
     }
 
-    // The round after a dish has asked for passes.
-    fn after_asking(&self, dish: usize, step: u64, round: &Round) -> Round
+    // The bids after a dish has asked for passes.
+    fn after_asking(&self, dish: usize, step: u64, bids: &Bids) -> Bids
         requires there { dish < length self.now.night.turns.now }
-        requires before { NoneAbove SCALE self.now.night.passes.now round.now.prices }
+        requires before { NoneAbove SCALE self.now.night.passes.now bids.now.prices }
         ensures { NoneAbove SCALE self.now.night.passes.now result.prices }
     {
         let passes = self.night.passes;
         let count = passes.len();
-        let gains = less_prices(passes, &round.prices[..count]);
+        let gains = less_prices(passes, &bids.prices[..count]);
         let table = self.night.table_of(dish, &gains[..count]);
         let mut asked = [0; MOST_PASSES];
         let asked = &mut asked[..count];
         self.night
             .alone(dish)
             .follow_table(&table[..count + 1], asked);
-        self.moved(asked, step, round)
+        self.moved(asked, step, bids)
     }
 
-    // The round, once a dish has asked for the passes that its plan follows.
+    // The bids, once a dish has asked for the passes that its plan follows.
     // Kept: by index, as the rooms are arrays, of which the front is used.
-    fn moved(&self, asked: &[u8], step: u64, round: &Round) -> Round
+    fn moved(&self, asked: &[u8], step: u64, bids: &Bids) -> Bids
         requires one_each { length asked.now ≡ length self.now.night.passes.now }
-        requires before { NoneAbove SCALE self.now.night.passes.now round.now.prices }
+        requires before { NoneAbove SCALE self.now.night.passes.now bids.now.prices }
         ensures { NoneAbove SCALE self.now.night.passes.now result.prices }
     {
         let others = (self.night.turns.len() as u64).saturating_sub(1);
-        let mut prices = round.prices;
-        let mut given = round.given;
+        let mut prices = bids.prices;
+        let mut given = bids.given;
         for (i, pass) in self.night.passes.iter().enumerate() {
             let change = self.strides[i].saturating_mul(step) / PARTS;
             if asked[i] > 0 {
@@ -144,16 +145,16 @@ impl Auction<'_> {
                 prices[i] = prices[i].saturating_sub(change);
             }
         }
-        Round { prices, given }
+        Bids { prices, given }
     }
 
-    // What the passes that are given are worth together.
-    fn worth_of(&self, round: &Round) -> u64
+    // What the passes that are given are worth together. Only that it fits is promised, since nothing rests on it.
+    fn worth_of(&self, bids: &Bids) -> u64
         ensures { result ≤ 128 * 2 ^ 32 }
     {
         let mut worth = 0;
         for (i, pass) in self.night.passes.iter().enumerate() {
-            if round.given[i] > 0 {
+            if bids.given[i] > 0 {
                 worth += pass.worth as u64;
             }
         }

@@ -9,7 +9,7 @@ mod rounding;
 mod tests;
 mod units;
 
-pub use auction::Auction;
+pub use auction::{Auction, Bids};
 pub use laws::prices_bound_stands;
-pub use prices::{Priced, SCALE};
+pub use prices::Priced;
 pub use rounding::{MOST_DISHES, MOST_PASSES, NextPasses, Rounded};

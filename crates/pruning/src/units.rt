@@ -18,11 +18,11 @@ pub(crate) fn unit_of(passes: &[Pass]) -> u64
     unit.max(1)
 }
 
-fn greatest_common_divisor(a: u64, b: u64) -> u64
+fn greatest_common_divisor(mut a: u64, mut b: u64) -> u64
     ensures { IsGcd a b result }
 {
-    if b == 0 {
-        return a;
+    while b > 0 {
+        (a, b) = (b, a % b);
     }
-    greatest_common_divisor(b, a % b)
+    a
 }

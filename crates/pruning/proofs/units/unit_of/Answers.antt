@@ -1,5 +1,4 @@
-use Rattle.std.proofs.Common.{◌≡◌, ◌%◌, inl, inr, ⊎_elim, arith}
-use Prim.Native.Nat.{◌∣◌}
+use Rattle.std.proofs.Common.{◌≡◌, inl, inr, ⊎_elim, arith}
 use Rattle.std.proofs.Math.Nat.{mod-one, mod-zero}
 use Rattle.std.proofs.lemmas.Bool.{cases_eq}
 use Rattle.std.proofs.lemmas.Nat.Gcd.{dvd_trans, dvd-zero, dvd_of_mod-eq-zero, mod-eq-zero_of_dvd}

@@ -1,4 +1,4 @@
-use Rattle.std.proofs.Common.{◌≡◌, length, arith, rules}
+use Rattle.std.proofs.Common.{◌≡◌, length, rules}
 use Rattle.pruning.specs.Lawful.{rounded_moves}
 use Rattle.pruning.specs.Rounding.{rounded_night}
 use Rattle.pruning.proofs.Bounding.{nothing_bound}

@@ -3,4 +3,4 @@ use Rattle.pruning.proofs.auction.Auction.round.Given as goal
 
 -- no price is above what its pass is worth
 abbrev pub invariant-loop-turn : goal.invariant-loop-turn
-invariant-loop-turn l = NoneAbove 1024 l.self.night.passes.now l.round.prices
+invariant-loop-turn l = NoneAbove 1024 l.self.night.passes.now l.bids.prices

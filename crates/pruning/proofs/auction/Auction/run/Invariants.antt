@@ -1,7 +1,7 @@
-use Rattle.std.proofs.Common.{◌≡◌, ◌≤◌, length}
+use Rattle.std.proofs.Common.{◌≤◌}
 use Rattle.pruning.specs.Prices.{NoneAbove}
 use Rattle.pruning.proofs.auction.Auction.run.Given as goal
 
--- no price is above what its pass is worth, steps do not grow, and the plan is as long as it was
-abbrev pub invariant-loop-first : goal.invariant-loop-first
-invariant-loop-first l = NoneAbove 1024 l.self.night.passes.now l.prices × (l.step ≤ 32768) × (length l.plan ≡ length l.self.night.passes.now)
+-- no price is above what its pass is worth, and steps do not grow
+abbrev pub invariant-loop-number : goal.invariant-loop-number
+invariant-loop-number l = NoneAbove 1024 l.self.night.passes.now l.prices × (l.step ≤ 32768)
