@@ -4,7 +4,7 @@ ghost use Rattle.std.specs.Result.{result_err};
 ghost use Rattle.engine.specs.Gaining.{BestGain};
 ghost use Rattle.passes.specs.Nights.{passes_of, station_of};
 ghost use Rattle.passes.specs.Numbers.{passes_in};
-ghost use Rattle.passes.specs.Refusals.{refused_with_room};
+ghost use Rattle.passes.specs.Refusals.{room_refused, refused_with_room};
 ghost use Rattle.capacity.specs.Alone.{Planned as BestPlanWorth};
 ghost use Rattle.planner.specs.Answers.{done_of, DoneSays};
 ghost use Rattle.planner.specs.Nights.{night as night_of};
@@ -74,6 +74,16 @@ pub fn plan_counted(
 {
     let night = Night::read_for_room(dishes, turn, passes, room.len())?;
     Ok(plan_night(&night, room))
+}
+
+// As `try_plan`, for a night that was taken already: only the room may be refused.
+// Kept: the room stands beside the night, to be written.
+pub fn plan_taken(night: &Night, room: &mut [u8]) -> Result<u64, Refusal>
+    ensures refusal { result_err result ≡ room_refused (length (passes_of night.now)) (length room.old) }
+    ensures planned { MatchResult result (λ w. BestPlanWorth night.now.station (passes_of night.now) room.new w) (λ _. room.new ≡ room.old) }
+{
+    night.check_room(room.len())?;
+    Ok(plan_night(night, room).worth)
 }
 
 // Leaves a best plan of a night in the room, and answers its worth.
