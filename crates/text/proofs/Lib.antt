@@ -1,0 +1,15 @@
+pub mod Naming
+pub mod Planning
+pub mod Showing
+pub mod Telling
+pub mod Numbers
+pub mod Marks
+pub mod LineByLine
+pub mod Entries
+pub mod Named
+pub mod TakingLists
+pub mod Cutting
+pub mod RoundTrip
+pub mod Spelled
+pub mod FirstFault
+pub mod Rules

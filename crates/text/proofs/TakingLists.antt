@@ -1,0 +1,61 @@
+-- What is read, as a night.
+use Rattle.std.proofs.Common.{rules, ◌≡◌, ℕ, suc, true, List, [], ◌∷◌, length, map, is_some, String, Vec, Global, string_bytes, Some, None, Option, Ok, Err, Result, refl, sym, ap, subst, arith}
+use Rattle.std.specs.Prelude.{IsSome, IfSome}
+use Rattle.std.proofs.lemmas.Bool.Decides.{nat_tests}
+use Rattle.std.proofs.lemmas.List.{length-map}
+use Rattle.passes.specs.declared.refusals.Refusal.{Refusal}
+use Rattle.passes.specs.declared.model.Pass.{Pass}
+use Rattle.passes.specs.declared.model.Station.{Station}
+use Rattle.passes.specs.declared.nights.Night.{Night}
+use Rattle.passes.specs.Nights.{station_of, passes_of}
+use Rattle.passes.specs.Numbers.{passes_in}
+use Rattle.passes.specs.Refusals.{refused}
+use Rattle.text.specs.declared.drafts.Entry as code
+use Rattle.text.specs.declared.drafts.StationLine.{StationLine}
+use Rattle.text.specs.declared.faults.TurnedAway.{TurnedAway}
+use Rattle.text.specs.declared.faults.TurnedAway.TheVariants.{Refused}
+use Rattle.text.specs.declared.nights.NamedNight.{NamedNight}
+use Rattle.text.specs.Drafts.{Entry}
+use Rattle.text.specs.Lists.{NamedList, list_of}
+use Rattle.text.specs.Names.{are_names, name_each}
+use Rattle.text.specs.Reading.{numbers_of, names_in, line_about, rule_about, taken_with}
+use Rattle.text.specs.Views.{entry_of}
+
+pub four_each : (es : List Entry) → length (passes_in (numbers_of es)) ≡ length es
+unfolding passes_in
+four_each [] = refl
+four_each (e ∷ es) = ap suc (four_each es)
+
+all_named : (es : List code.Entry) → are_names (names_in (map entry_of es)) ≡ true
+unfolding are_names
+all_named [] = refl
+all_named (e ∷ es) = rw (e.named, all_named es) refl
+
+-- there is a name for each pass that the numbers stand for
+pub each_named : (es : List code.Entry) → name_each (length (passes_in (numbers_of (map entry_of es)))) (names_in (map entry_of es)) ≡ true
+unfolding name_each
+each_named es = rw (four_each (map entry_of es), length-map (map entry_of es) (λ e. e.pass.name), all_named es) (grind (arith, nat_tests))
+
+module _ (s : StationLine) (es : List Entry) where
+  pub turned_away : (why : Refusal) → Some why ≡ refused s.dishes s.turn (numbers_of es) → taken_with s es ≡ Err (Refused why (line_about s es why) (rule_about es why))
+  unfolding taken_with
+  turned_away why e = rw (sym e) refl
+
+  pub accepted : None ≡ refused s.dishes s.turn (numbers_of es) → taken_with s es ≡ Ok (record { station = station_of s.dishes s.turn; names = names_in es; passes = passes_in (numbers_of es) })
+  unfolding taken_with
+  accepted e = rw (sym e) refl
+
+pub some_if : {A : Type 0} (o : Option A) → is_some o ≡ true → IsSome o
+some_if (Some x) e = search rules
+some_if None e = absurd cc
+
+abbrev read : NamedList → Result NamedList TurnedAway
+read l = Ok l
+
+-- a night with this station, these passes and these names is this list
+pub same_list : (o : Option NamedNight) (n : NamedNight) (night : Night) (names : Vec (String Global) Global) (s : Station) (ws : List (List ℕ)) (ps : List Pass) → o ≡ Some n
+    → IfSome o (λ m. (m.night ≡ night) × (m.names ≡ names)) → night.station ≡ s → passes_of night ≡ ps → map string_bytes names.items ≡ ws
+    → read (record { station = s; names = ws; passes = ps }) ≡ Ok (list_of n)
+same_list o n night names s ws ps is made station passes called =
+    let both = subst (λ o. IfSome o (λ m. (m.night ≡ night) × (m.names ≡ names))) is made in
+    rw (both.0, both.1, station, passes, called) refl

@@ -1,0 +1,54 @@
+-- A list as far as it is read, line by line. Assumes nothing: these are definitions.
+use Rattle.std.specs.Prelude.{ℕ, ◌+◌, List, [], ◌∷◌, ◌++◌, length, nat_lt, is_some, is_none, Some, None, Option, Ok, Err, Result, if◌then◌else◌}
+use Rattle.text.specs.declared.drafts.StationLine.{StationLine}
+use Rattle.text.specs.declared.faults.LineFault.{LineFault}
+use Rattle.text.specs.declared.faults.LineFault.TheVariants.{TooLong, SecondStation, NoStation}
+use Rattle.text.specs.declared.faults.TurnedAway.{TurnedAway}
+use Rattle.text.specs.declared.faults.TurnedAway.TheVariants.{Unreadable}
+use Rattle.text.specs.Lines.{◌>>=◌, NamedPass, Said, said_by}
+use Rattle.text.specs.Lines.Said.{nothing, station, pass}
+use Rattle.text.specs.Words.{lines_of, words_of}
+
+-- how many bytes a line may have
+abbrev pub longest_line : ℕ
+longest_line = 1000
+
+-- a pass, and the line that says it
+pub record Entry : Type 0 where
+  pub pass : NamedPass
+  pub line : ℕ
+
+-- the station, once a line has said it, and the passes so far
+pub record Draft : Type 0 where
+  pub station : Option StationLine
+  pub entries : List Entry
+
+-- nothing is read
+abbrev pub empty : Draft
+empty = record { station = None; entries = [] }
+
+-- a station is said once, and before all passes; line i says this
+unfoldable pub with_said : ℕ → Draft → Said → Result Draft LineFault
+with_said i d nothing = Ok d
+with_said i d (station dishes turn) =
+    if is_some d.station then Err SecondStation else Ok (record { station = Some (record { dishes = dishes; turn = turn; line = i }); entries = d.entries })
+with_said i d (pass p) =
+    if is_none d.station then Err NoStation else Ok (record { station = d.station; entries = d.entries ++ (record { pass = p; line = i } ∷ []) })
+
+-- what is read once line i is too
+unfoldable pub with_line : ℕ → Draft → List ℕ → Result Draft LineFault
+with_line i d line = if nat_lt longest_line (length line) then Err TooLong else (said_by (words_of line) >>= with_said i d)
+
+-- a fault is one of line i
+unfoldable pub at_line : {A : Type 0} → ℕ → Result A LineFault → Result A TurnedAway
+at_line i (Ok x) = Ok x
+at_line i (Err fault) = Err (Unreadable (record { line = i; fault = fault }))
+
+-- what is read once these lines are, of which line i is the first; or the first that can't be read, and why
+unfoldable pub with_lines : ℕ → Draft → List (List ℕ) → Result Draft TurnedAway
+with_lines i d [] = Ok d
+with_lines i d (line ∷ lines) = at_line i (with_line i d line) >>= (λ e. with_lines (i + 1) e lines)
+
+-- all of a text is read
+unfoldable pub draft_of : List ℕ → Result Draft TurnedAway
+draft_of text = with_lines 0 empty (lines_of text)

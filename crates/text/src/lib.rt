@@ -1,0 +1,30 @@
+// Lists of passes as text: reading and writing them, and printing plans.
+#![tactic(auto)]
+
+mod drafting;
+mod drafts;
+mod faults;
+mod labels;
+mod laws;
+mod lines;
+mod messages;
+mod names;
+mod nights;
+mod planned;
+mod plans;
+mod reading;
+mod said;
+mod words;
+mod writing;
+
+pub use faults::{BadLine, LineFault, ListRule, ReadError, TurnedAway};
+pub use laws::{
+    first_at_fault_stands, refused_for_what_it_says_stands, round_trip_stands,
+    unreadable_first_stands,
+};
+pub use messages::refusal_line;
+pub use nights::NamedNight;
+pub use planned::Planned;
+
+#[cfg(test)]
+mod tests;

@@ -1,0 +1,58 @@
+ghost use Rattle.std.specs.Prelude.{◌≡◌, true, vec_len, IfOk};
+ghost use Rattle.passes.specs.Nights.{passes_of};
+ghost use Rattle.passes.specs.Plans.{fits, worth_of, Best};
+
+use crate::nights::NamedNight;
+use planner::plan_taken;
+use std::alloc::{AllocError, Global};
+
+// A night with a good plan for it, and what the plan is worth.
+#[derive(Drop)]
+pub struct Planned {
+    pub(crate) night: NamedNight,
+    pub(crate) plan: Vec<u8>,
+    pub(crate) worth: u64,
+    ghost one_each: { vec_len plan ≡ vec_len night.names },
+    ghost good: { fits night.night.station (passes_of night.night) plan.items ≡ true },
+    ghost sum: { worth ≡ worth_of (passes_of night.night) plan.items },
+}
+
+impl NamedNight {
+    // Plans the night: no good plan is worth more.
+    pub fn plan(self, alloc: Global) -> Result<Planned, AllocError>
+        ensures same { IfOk result (λ p. p.night ≡ self) }
+        ensures best { IfOk result (λ p. Best self.night.station (passes_of self.night) p.plan.items) }
+        ensures worth { IfOk result (λ p. p.worth ≡ worth_of (passes_of self.night) p.plan.items) }
+    {
+        let mut plan = vec![in alloc; 0; self.night.passes().len()]?;
+        let worth = plan_taken(&self.night, &mut plan).unwrap();
+        Ok(Planned {
+            night: self,
+            plan,
+            worth,
+        })
+    }
+}
+
+impl Planned {
+    // The night that is planned.
+    pub fn night(&self) -> &NamedNight
+        ensures { result.now ≡ self.now.night }
+    {
+        &self.night
+    }
+
+    // For each pass 0 if it isn't followed, or one more than the dish that follows it.
+    pub fn plan(&self) -> &[u8]
+        ensures { result.now ≡ self.now.plan.items }
+    {
+        &self.plan
+    }
+
+    // What the passes that are followed are worth together.
+    pub fn worth(&self) -> u64
+        ensures { result ≡ self.now.worth }
+    {
+        self.worth
+    }
+}
