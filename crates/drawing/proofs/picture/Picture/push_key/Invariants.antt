@@ -1,0 +1,10 @@
+use Rattle.std.proofs.Common.{◌≡◌, ◌++◌}
+use Rattle.std.specs.Prelude.{string_bytes}
+use Rattle.std.specs.List.{flat_map, range_with_len}
+use Rattle.drawing.specs.Timelines.{key_line}
+use Rattle.drawing.specs.Shown.{view}
+use Rattle.drawing.proofs.picture.Picture.push_key.Given as goal
+
+-- the lines so far are written
+abbrev pub invariant-loop-place : goal.invariant-loop-place
+invariant-loop-place l = string_bytes l.out ≡ string_bytes l.initial.out ++ flat_map (key_line (view l.self) l.width) (range_with_len 0 l.place)

@@ -1,0 +1,9 @@
+pub mod Shown
+pub mod Columns
+pub mod Padding
+pub mod Rows
+pub mod Timelines
+pub mod Areas
+pub mod Levels
+pub mod Within
+pub mod Drawings
