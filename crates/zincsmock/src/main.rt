@@ -1,158 +1,72 @@
-// Judges the example plans, plans the example lists, and says of some which second is busiest and whether all passes can be followed.
+// Plans the list of passes in a file, or from standard input, and prints the plan; or says why the list is turned away.
 #![tactic(auto)]
 
-use capacity::{Peak, assign_all, busiest, plan_one_dish};
-use passes::{Night, Refusal, judge};
-use planner::try_plan;
-use std::{fmt, io};
+use report::{Answer, HELP, Request, View, respond};
+use std::io::Read;
+use std::process::ExitCode;
+use std::{env, fs, io};
 
-// Five passes that any dish may follow: from, to, worth, marks.
-const FIVE: [[u32; 4]; 5] = [
-    [0, 10, 5, 15],
-    [5, 15, 9, 15],
-    [12, 20, 6, 15],
-    [16, 25, 4, 15],
-    [21, 30, 7, 15],
-];
+const VERSION: &str = "zincsmock 0.6.0";
 
-// The first three of them, with marks of dishes 0, 0 and 1.
-const MARKED: [[u32; 4]; 3] = [[0, 10, 5, 1], [5, 15, 9, 1], [12, 20, 6, 2]];
+// How the process ends where it was called for nothing that it does.
+const MISUSED: u8 = 2;
 
-// One long pass, and two that it overlaps, which together are worth more.
-const LONG: [[u32; 4]; 3] = [[0, 900, 9, 15], [10, 400, 8, 15], [500, 890, 8, 15]];
-
-// Two passes that all dishes hear, and while they last one that only dishes 0 and 1 hear.
-const HEARD_BY_TWO: [[u32; 4]; 3] = [[0, 600, 5, 15], [10, 600, 5, 15], [60, 500, 1, 3]];
-
-// A station, and passes over it as four numbers each.
-#[derive(Clone, Copy)]
-struct Case<'a> {
-    dishes: u64,
-    turn: u64,
-    passes: &'a [[u32; 4]],
-}
-
-impl fmt::Display for Case<'_> {
-    fn fmt<W: fmt::Write>(&self, f: &mut fmt::Formatter<W>) -> fmt::Result {
-        write!(f, "dishes {} turn {}", self.dishes, self.turn)
-    }
-}
-
-impl<'a> Case<'a> {
-    // The station with so many dishes, each of which takes so long to turn, and these passes.
-    fn new(dishes: u64, turn: u64, passes: &'a [[u32; 4]]) -> Case<'a> {
-        Case {
-            dishes,
-            turn,
-            passes,
-        }
-    }
-
-    // Prints a plan and what is said of it, on one line.
-    fn report(&self, rt: &HostRuntime, plan: &[u8]) -> io::Result<()> {
-        let numbers = self.passes.as_flattened();
-        print!(rt; "{self} {}", Plan(plan))?;
-        // Kept: a match, since all outcomes are printed.
-        match judge(self.dishes, self.turn, numbers, plan) {
-            Ok(Ok(worth)) => println!(rt; ": good, worth {worth}"),
-            Ok(Err(flaw)) => println!(rt; ": not good, {flaw}"),
-            Err(refusal) => println!(rt; ": turned away, {refusal}"),
-        }
-    }
-
-    // Prints a best plan, and what it is worth.
-    fn report_best(&self, rt: &HostRuntime) -> io::Result<()> {
-        let mut room = vec![in rt.alloc(); 0; self.passes.len()]?;
-        let numbers = self.passes.as_flattened();
-        let planned = try_plan(self.dishes, self.turn, numbers, room.as_mut_slice());
-        self.report_planned(rt, planned, room.as_slice())
-    }
-
-    // Prints a best plan as if the station had one dish, made from the table of what one dish can gain, and what it is worth.
-    fn report_one_dish(&self, rt: &HostRuntime) -> io::Result<()> {
-        let alone = Case { dishes: 1, ..*self };
-        let mut room = vec![in rt.alloc(); 0; self.passes.len()]?;
-        let planned = plan_one_dish(self.turn, self.passes.as_flattened(), room.as_mut_slice());
-        print!(rt; "one dish alone, ")?;
-        alone.report_planned(rt, planned, room.as_slice())
-    }
-
-    // Prints what came of planning: what the plan in the room is worth, or why there is none.
-    fn report_planned(
-        &self,
-        rt: &HostRuntime,
-        planned: Result<u64, Refusal>,
-        room: &[u8],
-    ) -> io::Result<()> {
-        // Kept: a match, since both outcomes are printed.
-        match planned {
-            Ok(worth) => println!(rt; "{self}: worth {worth} by {}", Plan(room)),
-            Err(refusal) => println!(rt; "{self}: turned away, {refusal}"),
-        }
-    }
-
-    // Prints the busiest second, and a plan that follows all the passes or why there is none.
-    fn report_capacity(&self, rt: &HostRuntime) -> io::Result<()> {
-        let numbers = self.passes.as_flattened();
-        let mut room = vec![in rt.alloc(); 0; self.passes.len()]?;
-        // Kept: a match, since both outcomes are printed.
-        match Night::read(self.dishes, self.turn, numbers) {
-            Ok(night) => {
-                print!(rt; "{self}: ")?;
-                report_night(rt, &night, room.as_mut_slice())
-            }
-            Err(refusal) => println!(rt; "{self}: turned away, {refusal}"),
+fn main(rt: HostRuntime) -> ExitCode {
+    match run(&rt) {
+        Ok(code) => code,
+        Err(error) => {
+            // Nothing is left to be done where this can't be printed either.
+            let _ = eprintln!(rt; "zincsmock: {error}");
+            ExitCode::FAILURE
         }
     }
 }
 
-// Prints the rest of that line, for a night that was read and a room for its plan. Kept: the room stands beside the night, to be written.
-fn report_night(rt: &HostRuntime, night: &Night, room: &mut [u8]) -> io::Result<()> {
-    let Peak { second, count } = busiest(night.passes(), night.station().turn);
-    print!(rt; "busiest second {second} with {count} passes, ")?;
-    // Kept: a match, since both outcomes are printed.
-    match assign_all(night, room) {
-        Ok(()) => println!(rt; "all followed by {}", Plan(room)),
-        Err(why) => println!(rt; "{why}"),
-    }
-}
-
-// A plan, as it is printed.
-#[derive(Clone, Copy)]
-struct Plan<'a>(&'a [u8]);
-
-impl fmt::Display for Plan<'_> {
-    fn fmt<W: fmt::Write>(&self, f: &mut fmt::Formatter<W>) -> fmt::Result {
-        write!(f, "plan")?;
-        for named in self.0 {
-            write!(f, " {named}")?;
+// Does what the arguments ask for.
+fn run(rt: &HostRuntime) -> io::Result<ExitCode> {
+    let args: Vec<String> = env::args(rt)?.skip(1).collect(rt.alloc())?;
+    match Request::of(&args) {
+        Request::Help => print!(rt; "{HELP}")?,
+        Request::Version => println!(rt; "{VERSION}")?,
+        Request::Plan { view, path } => return plan(rt, view, path),
+        Request::Unknown => {
+            eprintln!(rt;
+                "zincsmock: these arguments are not known; zincsmock --help says which are"
+            )?;
+            return Ok(ExitCode::from(MISUSED));
         }
-        Ok(())
+    }
+    Ok(ExitCode::SUCCESS)
+}
+
+// Plans the list in a file, or from standard input.
+fn plan(rt: &HostRuntime, view: View, path: Option<&str>) -> io::Result<ExitCode> {
+    let text = match read(rt, path) {
+        Ok(text) => text,
+        Err(error) => {
+            let name = path.unwrap_or("standard input");
+            eprintln!(rt; "zincsmock: {name}: {error}")?;
+            return Ok(ExitCode::FAILURE);
+        }
+    };
+    match respond(rt.alloc(), view, &text)? {
+        Answer::Planned(shown) => {
+            print!(rt; "{shown}")?;
+            Ok(ExitCode::SUCCESS)
+        }
+        Answer::TurnedAway(line) => {
+            eprint!(rt; "{line}")?;
+            Ok(ExitCode::FAILURE)
+        }
     }
 }
 
-fn main(rt: HostRuntime) -> io::Result<()> {
-    Case::new(1, 0, &FIVE).report(&rt, &[1, 0, 1, 0, 1])?;
-    Case::new(1, 3, &FIVE).report(&rt, &[0, 1, 0, 0, 1])?;
-    Case::new(2, 0, &FIVE).report(&rt, &[2, 1, 2, 1, 2])?;
-    Case::new(2, 3, &FIVE).report(&rt, &[2, 1, 0, 2, 1])?;
-    Case::new(2, 0, &MARKED).report(&rt, &[0, 1, 2])?;
-    Case::new(2, 0, &MARKED).report(&rt, &[1, 0, 1])?;
-    Case::new(1, 3, &FIVE).report(&rt, &[1, 0, 1, 0, 1])?;
-    Case::new(1, 0, &MARKED).report(&rt, &[0, 1, 2])?;
-    Case::new(5, 0, &FIVE).report(&rt, &[1, 0, 1, 0, 1])?;
-    Case::new(1, 0, &FIVE).report(&rt, &[1, 0, 1])?;
-    Case::new(1, 0, &FIVE).report_best(&rt)?;
-    Case::new(1, 3, &FIVE).report_best(&rt)?;
-    Case::new(2, 0, &FIVE).report_best(&rt)?;
-    Case::new(2, 3, &FIVE).report_best(&rt)?;
-    Case::new(2, 0, &MARKED).report_best(&rt)?;
-    Case::new(1, 0, &LONG).report_best(&rt)?;
-    Case::new(4, 60, &HEARD_BY_TWO).report_best(&rt)?;
-    Case::new(2, 100_001, &FIVE).report_best(&rt)?;
-    Case::new(1, 0, &FIVE).report_one_dish(&rt)?;
-    Case::new(1, 3, &FIVE).report_one_dish(&rt)?;
-    Case::new(2, 0, &FIVE).report_capacity(&rt)?;
-    Case::new(2, 3, &FIVE).report_capacity(&rt)?;
-    Case::new(2, 0, &MARKED).report_capacity(&rt)
+// All bytes of a file, or of standard input.
+fn read(rt: &HostRuntime, path: Option<&str>) -> io::Result<Vec<u8>> {
+    let Some(path) = path else {
+        let mut text = Vec::new(rt.alloc());
+        rt.reader().read_to_end(&mut text)?;
+        return Ok(text);
+    };
+    fs::read(rt, path)
 }
