@@ -1,0 +1,17 @@
+-- What is done to a list is done to what a function makes of it. Assumes nothing.
+use Rattle.std.proofs.Common.{◌≡◌, ℕ, suc, List, [], ◌∷◌, take, drop, get_or, map, refl, sym}
+use Rattle.std.specs.Prelude.{insert, remove, swap}
+use Rattle.std.proofs.Math.ListN.{get_or-map}
+use Rattle.std.proofs.lemmas.List.{map-append, map-set, take-map, drop-map}
+
+module _ {X Y : Type 0} (f : X → Y) where
+  pub map-remove : (xs : List X) (i : ℕ) → map f (remove xs i) ≡ remove (map f xs) i
+  map-remove xs i = rw (take-map f i xs, drop-map f (suc i) xs) (map-append f (take i xs) (drop (suc i) xs))
+
+  pub map-insert : (xs : List X) (i : ℕ) (x : X) → map f (insert xs i x) ≡ insert (map f xs) i (f x)
+  map-insert xs i x = rw (take-map f i xs, drop-map f i xs) (map-append f (take i xs) (x ∷ drop i xs))
+
+  pub map-swap : (xs : List X) (i j : ℕ) → map f (swap xs i j) ≡ swap (map f xs) i j
+  map-swap [] i j = refl
+  map-swap (d ∷ ys) i j =
+      rw (get_or-map f (d ∷ ys) i d, get_or-map f (d ∷ ys) j d, sym (map-set f (d ∷ ys) i (get_or (d ∷ ys) j d))) (map-set f _ j (get_or (d ∷ ys) i d))

@@ -1,0 +1,2 @@
+pub mod Outcomes
+pub mod Damages
