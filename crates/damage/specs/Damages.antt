@@ -14,13 +14,15 @@ abbrev pub joined : List (List ℕ) → List ℕ
 joined [] = []
 joined (l ∷ ls) = l ++ flat_map (λ m. 10 ∷ m) ls
 
--- a line is cut, one is written once more, or two change places
+-- a line is cut
 abbrev pub Cut : (old new : List ℕ) → Type 0
 Cut old new = (i : ℕ) × (new ≡ joined (remove (lines_of old) i))
 
+-- a line is written once more, before a line
 abbrev pub Doubled : (old new : List ℕ) → Type 0
 Doubled old new = (i : ℕ) × (j : ℕ) × (new ≡ joined (insert (lines_of old) i (slice_index_or (lines_of old) j [])))
 
+-- two lines change places
 abbrev pub Swapped : (old new : List ℕ) → Type 0
 Swapped old new = (i : ℕ) × (j : ℕ) × (new ≡ joined (swap (lines_of old) i j))
 

@@ -31,21 +31,22 @@ unfoldable pub all_words : List (List ℕ) → Bool
 all_words [] = true
 all_words (w ∷ ws) = is_word w && all_words ws
 
-unbroken : (w : List ℕ) → all_plain w ≡ true → All (λ b. is_blank b ≡ false) w
-unfolding all_plain plain
-unbroken w h = All-from_recursion (λ b. is_blank b ≡ false) w (each w h)
+-- a test that fails at each plain byte fails at all of these
+untouched : (test : ℕ → Bool) → ((b : ℕ) → plain b ≡ true → test b ≡ false) → (w : List ℕ) → all_plain w ≡ true → All (λ b. test b ≡ false) w
+unfolding all_plain
+untouched test fails w h = All-from_recursion (λ b. test b ≡ false) w (each w h)
   where
-    each : (w : List ℕ) → all_plain w ≡ true → AllByRecursion (λ b. is_blank b ≡ false) w
+    each : (w : List ℕ) → all_plain w ≡ true → AllByRecursion (λ b. test b ≡ false) w
     each [] h = tt
-    each (b ∷ bs) h = (grind (arith, nat_tests), each bs (grind (arith, nat_tests)))
+    each (b ∷ bs) h = (fails b (grind (arith, nat_tests)), each bs (grind (arith, nat_tests)))
 
-one_line : (w : List ℕ) → all_plain w ≡ true → OneLine w
-unfolding all_plain plain
-one_line w h = All-from_recursion in_line w (each w h)
-  where
-    each : (w : List ℕ) → all_plain w ≡ true → AllByRecursion in_line w
-    each [] h = tt
-    each (b ∷ bs) h = (grind (arith, nat_tests), each bs (grind (arith, nat_tests)))
+no_blank : (b : ℕ) → plain b ≡ true → is_blank b ≡ false
+unfolding plain
+no_blank b h = grind (arith, nat_tests)
+
+no_end : (b : ℕ) → plain b ≡ true → ends_line b ≡ false
+unfolding plain
+no_end b h = grind (arith, nat_tests)
 
 record IsWord (w : List ℕ) : Type 0 where
   some : 0 < length w
@@ -54,7 +55,7 @@ record IsWord (w : List ℕ) : Type 0 where
 
 word : (w : List ℕ) → is_word w ≡ true → IsWord w
 unfolding is_word
-word w h = let plain : all_plain w ≡ true = grind (arith, nat_tests) in record { some = grind (arith, nat_tests); unbroken_word = unbroken w plain; one_line_word = one_line w plain }
+word w h = let plain_bytes : all_plain w ≡ true = grind (arith, nat_tests) in record { some = grind (arith, nat_tests); unbroken_word = untouched is_blank no_blank w plain_bytes; one_line_word = untouched ends_line no_end w plain_bytes }
 
 abbrev Words : List (List ℕ) → Type 0
 Words ws = AllByRecursion IsWord ws

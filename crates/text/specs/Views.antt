@@ -8,13 +8,16 @@ use Rattle.text.specs.Drafts as plain
 use Rattle.text.specs.Lines.{Said}
 use Rattle.text.specs.Lines.Said.{nothing, station, pass}
 
+-- what a line says
 abbrev pub said_of : Line → Said
 said_of Nothing = nothing
 said_of (Station dishes turn) = station dishes turn
 said_of (Pass p) = pass (record { name = p.name.now; numbers = p.numbers })
 
+-- a pass, and the line that says it
 abbrev pub entry_of : Entry → plain.Entry
 entry_of e = record { pass = record { name = string_bytes e.name; numbers = e.numbers }; line = e.line }
 
+-- a list as far as it is read
 abbrev pub view_of : Draft → plain.Draft
 view_of d = record { station = d.station; entries = map entry_of d.entries.items }
