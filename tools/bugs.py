@@ -1,0 +1,164 @@
+#!/usr/bin/env python3
+"""Plants small bugs in a crate, one at a time, and says how the check refuses each, or that the crate is still proved with it.
+
+    python3 tools/bugs.py CRATE [--most N] [--seed S] [--only WORD]    at the top of the repository
+
+It works on a copy and changes nothing here. A bug is one change to one line of code, outside tests, clauses and comments: another operator, number,
+method, field or argument, a condition turned round, or a statement left out. Bugs are drawn at random, one from each function in turn. What a refusal shows
+depends on where its first error stands:
+
+    goal     in the code: something that is to hold there can no longer be shown
+    values   in a proof file, with values at which what was to be shown fails
+    term     in a proof file, where a term written by hand no longer has its goal's type. That alone doesn't tell a false goal from a proof that no
+             longer fits, so the tests are run on the code with the bug, unproved: they fail, or they show nothing
+"""
+import argparse
+import collections
+import glob
+import os
+import random
+import re
+import shutil
+import subprocess
+import tempfile
+
+# What stands in a line, as a pattern, and what is put in its place.
+SWAPS = [
+    (r" < ", " <= "), (r" <= ", " < "), (r" > ", " >= "), (r" >= ", " > "), (r" == ", " != "), (r" != ", " == "),
+    (r" < ", " > "), (r" > ", " < "), (r" <= ", " >= "), (r" >= ", " <= "),
+    (r" && ", " || "), (r" \|\| ", " && "), (r" \+ ", " - "), (r" - ", " + "), (r" \* ", " + "), (r" / ", " * "), (r" % ", " / "),
+    (r" & ", " | "), (r" \| ", " & "), (r" << ", " >> "), (r" >> ", " << "), (r" \+= ", " -= "), (r" -= ", " += "), (r" \|= ", " = "),
+    (r"\btrue\b", "false"), (r"\bfalse\b", "true"), (r"(?<!\.)\.\.(?![.=])", "..="), (r"\.\.=", ".."),
+    (r"\.min\(", ".max("), (r"\.max\(", ".min("), (r"\.any\(", ".all("), (r"\.all\(", ".any("),
+    (r"\.is_some\(", ".is_none("), (r"\.is_none\(", ".is_some("), (r"\.rev\(\)", ""), (r"\.position\(", ".rposition("),
+    (r"saturating_add\(", "saturating_sub("), (r"saturating_sub\(", "saturating_add("), (r"(?<=if )!", ""), (r"(?<=[(|& ])!(?=\w)", ""),
+    (r"\.find\(", ".rfind("), (r"\bfrom\b(?=[ ,)]|$)", "to"), (r"\.from\b", ".to"), (r"\.to\b", ".from"),
+    (r"\.dishes\b", ".turn"), (r"\.turn\b", ".dishes"), (r"\.split_first\(", ".split_last("), (r"starts_with\(", "ends_with("),
+    (r"\bSome\(\w+\)$", "None"), (r"\bstage \+ 1\b", "stage"), (r"\bstate\b(?=\)|,)", "best"), (r"\bchoice\b(?=,|\))", "0"), (r"\bturn\b(?=,|\))", "0"),
+    (r"\bdishes\b(?=,|\))", "1"), (r"\.len\(\)", ".len().saturating_sub(1)"), (r"\bi\b(?=\]|\))", "0"),
+]
+HEAD = r"^\s*(?:pub(?:\(crate\))?\s+)?(?:const\s+)?fn\s+([a-z_0-9]+)"
+NOT_CODE = ("//", "ghost", "use ", "requires", "ensures", "#", "pub ", "fn ", "mod ", "impl", "struct", "enum", "trait", "type", "where", "const ")
+Bug = collections.namedtuple("Bug", "path row function old new")
+
+
+def bodies(lines):
+    """Row, line and function of each line of code, tests left out."""
+    name = ""
+    for row, line in enumerate(lines):
+        if "#[cfg(test)]" in line:
+            return
+        if head := re.match(HEAD, line):
+            name = head[1]
+        bare = line.strip()
+        if name and bare and not bare.startswith(NOT_CODE) and "⌜" not in line and lines.count(line) == 1:
+            yield row, line, name
+
+
+def changed(line):
+    """The line with one change each."""
+    code = line.split("//")[0]
+    for old, new in SWAPS:
+        for found in re.finditer(old, code):
+            yield line[: found.start()] + new + line[found.end():]
+    for found in re.finditer(r"(?<![\w.\"'])(\d[\d_]*)(?![\w.\"'])", code):
+        yield line[: found.start()] + str(int(found[1].replace("_", "")) + 1) + line[found.end():]
+    if found := re.match(r"^(\s*(?:\} else )?if )([^{]*)( \{\s*)$", code):
+        if "let " not in found[2]:
+            yield f"{found[1]}!({found[2]}){found[3]}"
+    if re.match(r"^\s*(?!\s|let\b|use\b|\})[^{}]*;\s*$", code) and not re.match(r"^\s*[)\]]", code):
+        yield ""
+    for found in re.finditer(r"\b\w+\((\w[\w.]*), (\w[\w.]*)\)", code):
+        yield line[: found.start(1)] + found[2] + ", " + found[1] + line[found.end(2):]
+
+
+def bugs_of(crate, only):
+    for path in sorted(glob.glob(f"crates/{crate}/src/**/*.rt", recursive=True)):
+        if os.path.basename(path) in ("tests.rt", "laws.rt"):
+            continue
+        with open(path, encoding="utf-8") as file:
+            lines = file.read().split("\n")
+        for row, line, function in bodies(lines):
+            if only in path or only == function:
+                for new in dict.fromkeys(changed(line)):
+                    if new != line:
+                        yield Bug(path, row + 1, function, line, new)
+
+
+def drawn(bugs, most, seed):
+    """So many of the bugs, at random, one from each function in turn."""
+    bugs = list(bugs)
+    random.Random(seed).shuffle(bugs)
+    by_function = collections.defaultdict(list)
+    for bug in bugs:
+        by_function[bug.path, bug.function].append(bug)
+    taken = []
+    while len(taken) < most and any(by_function.values()):
+        for key in sorted(by_function):
+            if by_function[key] and len(taken) < most:
+                taken.append(by_function[key].pop())
+    return taken
+
+
+def tests_fail(copy, bug):
+    """Whether a test fails on the code with the bug, unproved."""
+    path = os.path.join(copy, bug.path)
+    with open(path, encoding="utf-8") as file:
+        text = file.read()
+    try:
+        with open(path, "w", encoding="utf-8") as file:
+            file.write(text.replace(bug.old, bug.new))
+        folder = os.path.join(copy, *bug.path.split("/")[:2])
+        return subprocess.run(["rt", "try", "--test", "--seconds", "60"], cwd=folder, capture_output=True).returncode != 0
+    finally:
+        with open(path, "w", encoding="utf-8") as file:
+            file.write(text)
+
+
+def kind_of(said):
+    """Where the first error of a refusal stands, or what else came of the bug."""
+    if said.startswith("NOT REFUSED"):
+        return "still proved"
+    if not said.startswith("refused"):
+        return "not code"
+    if "only because" in said or "only by a limit" in said:
+        return "term"
+    if "proofs/" not in said:
+        return "goal"
+    return "values" if re.search(r"omega|grind|fails (at|for)|counter", said) else "term"
+
+
+def main():
+    ap = argparse.ArgumentParser()
+    ap.add_argument("crate")
+    ap.add_argument("--most", type=int, default=40)
+    ap.add_argument("--seed", type=int, default=1)
+    ap.add_argument("--only", default="")
+    args = ap.parse_args()
+    every = list(bugs_of(args.crate, args.only))
+    taken = drawn(every, args.most, args.seed)
+    work = tempfile.mkdtemp(prefix="bugs-")
+    copy = os.path.join(work, "repository")
+    shutil.copytree(".", copy, symlinks=True, ignore=shutil.ignore_patterns("must-fail", ".git"))
+    edits = os.path.join(copy, "crates", args.crate, "must-fail")
+    os.makedirs(edits)
+    for number, bug in enumerate(taken):
+        with open(f"{edits}/m{number:03}.edit", "w", encoding="utf-8") as file:
+            file.write(f"file: {'/'.join(bug.path.split('/')[2:])}\nold: {bug.old}\nnew: {bug.new}\n")
+    print(f"{args.crate}: {len(every)} places, {len(taken)} tried", flush=True)
+    run = subprocess.run(["rt", "must-fail", args.crate], cwd=copy, capture_output=True, text=True)
+    count = collections.Counter()
+    for line in (run.stdout + run.stderr).split("\n"):
+        if not (found := re.search(r"must-fail \S+/m(\d+)(?:\.edit)?: (.*)", line)):
+            continue
+        bug, kind = taken[int(found[1])], kind_of(found[2])
+        if kind == "term":
+            kind = "term, and tests fail" if tests_fail(copy, bug) else "term alone"
+        count[kind] += 1
+        print(f"{kind}: {bug.path}:{bug.row} in {bug.function}\n    - {bug.old.strip()}\n    + {bug.new.strip()}\n    {found[2][:240]}", flush=True)
+    print(", ".join(f"{number} {kind}" for kind, number in sorted(count.items())))
+    shutil.rmtree(work, ignore_errors=True)
+
+
+if __name__ == "__main__":
+    main()
