@@ -52,3 +52,8 @@ pub checked_from : (s : Station) (ps : List Pass) → Checked s ps → checked s
 unfolding checked
 checked_from s ps h =
     and_from _ _ h.dishes (and_from _ _ h.turning (and_from _ _ (le-leb _ _ h.few) (and_from _ _ (ranges_from ps h.ranges) (sorted_from ps h.order))))
+
+-- a station that passes the checks has at most four dishes
+pub few_dishes_from_checked : (s : Station) (ps : List Pass) → checked s ps ≡ true → s.dishes ≤ 4
+unfolding dishes_ok
+few_dishes_from_checked s ps h = let dishes = (checked_says s ps h).dishes in grind (arith, nat_tests, dishes)

@@ -1,14 +1,17 @@
--- What follows where something is wrong with a plan, and that of each plan one verdict is true. Assumes nothing.
-use Rattle.std.proofs.Common.{◌≡◌, ℕ, ◌<◌, false, List, length, Ok, Err, sym, refl, ap, ◌∙◌, subst, ⊎_elim, arith}
+-- What follows where something is wrong with a plan, that of each plan at most one verdict is true, and that a good plan is judged so. Assumes nothing.
+use Rattle.std.proofs.Common.{◌≡◌, ℕ, ◌<◌, true, false, List, length, Ok, Err, Result, IfOk, sym, refl, ap, ◌∙◌, subst, ⊎_elim, arith}
 use Rattle.std.proofs.lemmas.Bool.{both_ways, cases_Bool, cases_order}
+use Rattle.std.specs.Result.{result_err}
 use Rattle.passes.specs.declared.judging.Fault.{Fault}
 use Rattle.passes.specs.declared.judging.Fault.TheVariants.{NoSuchDish, MayNotFollow, TooNear}
 use Rattle.passes.specs.declared.model.Pass.{Pass}
 use Rattle.passes.specs.declared.model.Station.{Station}
-use Rattle.passes.specs.Plans.{Plan, fits}
+use Rattle.passes.specs.declared.refusals.Refusal.{Refusal}
+use Rattle.passes.specs.Plans.{Plan, fits, worth_of}
+use Rattle.passes.specs.Refusals.{room_refused}
 use Rattle.passes.specs.Rule.{SoundAt, FirstClash}
 use Rattle.passes.specs.Statements.{OneVerdict}
-use Rattle.passes.specs.Verdicts.{WrongWith}
+use Rattle.passes.specs.Verdicts.{Verdict, TrueVerdict, WrongWith}
 use Rattle.passes.proofs.Goodness.{fits_says}
 
 -- a pass with which something is wrong is not sound
@@ -23,6 +26,7 @@ wrong_unfit s ps ds i f l w =
     ⊎_elim (λ good. absurd (wrong_unsound s ps ds i f w ((fits_says s ps ds good).each i l))) (λ bad. bad) (cases_Bool (fits s ps ds))
 
 module _ (s : Station) (ps : List Pass) (ds : Plan) where
+  -- a pass clashes with one other first
   one_first_clash : (i j k : ℕ) → FirstClash s ps ds i j → FirstClash s ps ds i k → j ≡ k
   one_first_clash i j k h g =
       ⊎_elim
@@ -57,3 +61,11 @@ one_verdict s ps ds (Err a) (Err b) h g =
     (λ after. absurd (wrong_unsound s ps ds b.pass b.fault g.1.1 (h.1.2 b.pass after)))
     other)
     (cases_order a.pass b.pass)
+
+-- a good plan is judged to be good, and to be worth what it is
+pub judged_good : (s : Station) (ps : List Pass) (ds : Plan) (r : Result Verdict Refusal) →
+    result_err r ≡ room_refused (length ps) (length ds) → IfOk r (TrueVerdict s ps ds) → fits s ps ds ≡ true → r ≡ Ok (Ok (worth_of ps ds))
+unfolding room_refused
+judged_good s ps ds (Ok (Ok v)) room said good = ap (λ x. Ok (Ok x)) said.1
+judged_good s ps ds (Ok (Err flaw)) room said good = absurd (both_ways _ said.0 good)
+judged_good s ps ds (Err why) room said good = let long = (fits_says s ps ds good).one_each in absurd (grind (arith, room, long))

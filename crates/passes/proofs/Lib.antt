@@ -3,6 +3,5 @@ pub mod Firsts
 pub mod Fours
 pub mod Goodness
 pub mod Judged
-pub mod Marks
 pub mod Taking
 pub mod Touching

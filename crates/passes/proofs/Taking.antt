@@ -1,9 +1,10 @@
 -- Why a list whose passes are all sound is taken, and as what. Assumes nothing.
-use Rattle.std.proofs.Common.{◌≡◌, ℕ, ◌+◌, ◌-◌, ◌*◌, ◌<◌, ◌≤◌, true, false, List, length, get_or, take, Some, None, Option, sym, refl, ap, ◌∙◌, ⊎_elim, arith, MatchOption}
+use Rattle.std.proofs.Common.{◌≡◌, ℕ, ◌+◌, ◌-◌, ◌*◌, ◌<◌, ◌≤◌, true, false, List, length, get_or, take, Some, None, Option, Ok, Err, Result, sym, refl, ap, ◌∙◌, ⊎_elim, arith, rules, MatchOption}
 use Rattle.std.proofs.lemmas.List.{same_lists, length-take-le, get_or-take, get_or_default}
 use Rattle.std.proofs.lemmas.Bool.{and_from, cases_lt, eq-eqb, le-leb, lt-ltb, or_left, or_right}
 use Rattle.std.proofs.lemmas.Bool.Decides.{nat_tests}
 use Rattle.std.specs.Option.{option_map}
+use Rattle.std.specs.Result.{result_err, IsOk}
 use Rattle.passes.specs.declared.model.Pass.{Pass}
 use Rattle.passes.specs.declared.model.Station.{Station}
 use Rattle.passes.specs.declared.nights.Night.{Night}
@@ -101,6 +102,12 @@ pub room_ok : (n room : ℕ) → room_refused n room ≡ None → room ≡ n
 unfolding room_refused
 room_ok n room h = grind (arith, nat_tests)
 
+-- and a room with a number for each of n passes isn't
+pub room_taken : {X : Type 0} (n room : ℕ) (r : Result X Refusal) → room ≡ n → result_err r ≡ room_refused n room → IsOk r
+unfolding room_refused
+room_taken n room (Ok w) same told = search rules
+room_taken n room (Err why) same told = grind (arith, nat_tests)
+
 -- what is refused without a room is refused with any
 pub refused_anyway : (k t : ℕ) (xs : List ℕ) (room : ℕ) (r : Refusal) → Some r ≡ refused k t xs → Some r ≡ refused_with_room k t xs room
 unfolding refused_with_room
@@ -120,6 +127,7 @@ place_is_first xs = by_cases (first_fault xs) (first_says (sound xs) 0 (begun xs
     by_cases None h = λ k l. h k (omega arith) (omega arith)
     by_cases (Some i) h = (omega (arith, h.1), h.2, λ k l. h.3 k (omega arith) l)
 
+-- where neither of two refusals applies, each is none
 or_else_none : (a b : Option Refusal) → or_else a b ≡ None → (a ≡ None) × (b ≡ None)
 or_else_none None b h = (refl, h)
 or_else_none (Some a) b h = absurd (grind arith)
@@ -128,16 +136,24 @@ no_fault : (o : Option ℕ) → option_map BadPass o ≡ None → o ≡ None
 no_fault None h = refl
 no_fault (Some i) h = absurd (grind arith)
 
-taken_checked : (k t : ℕ) (xs : List ℕ) → refused k t xs ≡ None → (length xs ≡ 4 * length (passes_in xs)) × (checked (station_of k t) (passes_in xs) ≡ true)
+-- a station in range and sound passes are refused nothing
+pub sound_taken : (k t : ℕ) (xs : List ℕ) → dishes_ok k ≡ true → turning_ok t ≡ true → ((i : ℕ) → i < begun xs → sound xs i ≡ true) → refused k t xs ≡ None
+unfolding refused list_refused station_refused
+sound_taken k t xs can turns all = rw (can, turns, none_at_fault xs all) refl
+
+-- and where nothing is refused, neither the station nor a pass is at fault
+pub none_refused : (k t : ℕ) (xs : List ℕ) → refused k t xs ≡ None → (station_refused k t ≡ None) × (first_fault xs ≡ None)
 unfolding refused list_refused
+none_refused k t xs h = let parts = or_else_none (station_refused k t) (list_refused xs) h in (parts.0, no_fault (first_fault xs) parts.1)
+
+taken_checked : (k t : ℕ) (xs : List ℕ) → refused k t xs ≡ None → (length xs ≡ 4 * length (passes_in xs)) × (checked (station_of k t) (passes_in xs) ≡ true)
 taken_checked k t xs h =
-    let parts = or_else_none (station_refused k t) (list_refused xs) h in
+    let parts = none_refused k t xs h in
     let ok = station_ok k t parts.0 in
-    let all = rw (no_fault (first_fault xs) parts.1) at (place_is_first xs) in
+    let all = rw parts.1 at (place_is_first xs) in
     (omega (arith, fours xs all, length-passes_in xs), list_checked xs all (station_of k t) ok.0 ok.1)
 
 checked_taken : (k t : ℕ) (xs : List ℕ) → length xs ≡ 4 * length (passes_in xs) → checked (station_of k t) (passes_in xs) ≡ true → refused k t xs ≡ None
-unfolding refused list_refused station_refused
 checked_taken k t xs in_fours h =
     let ps = passes_in xs in
     let ok = checked_says (station_of k t) ps h in
@@ -152,7 +168,7 @@ checked_taken k t xs in_fours h =
           let here = ap (λ p. p.from) (get_or-passes_in xs i no_pass (omega arith)) in
           omega (arith, rw back at (ok.order (i - 1) (omega arith)));
     }) in
-    rw (ok.dishes, ok.turning, none_at_fault xs all) refl
+    sound_taken k t xs ok.dishes ok.turning all
 
 pub taken_if_checked : TakenIfChecked
 taken_if_checked k t xs = (taken_checked k t xs, checked_taken k t xs)

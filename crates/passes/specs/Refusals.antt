@@ -25,7 +25,7 @@ abbrev pub or_else : Option Refusal → Option Refusal → Option Refusal
 or_else None b = b
 or_else (Some a) b = Some a
 
--- the dishes are looked at before the time that they take to turn
+-- the refusal that applies to a station: its dishes are looked at before the time that they take to turn
 unfoldable pub station_refused : (k t : ℕ) → Option Refusal
 station_refused k t = cond (dishes_ok k) (cond (turning_ok t) None (Some BadTurning)) (Some BadDishes)
 
@@ -33,7 +33,7 @@ station_refused k t = cond (dishes_ok k) (cond (turning_ok t) None (Some BadTurn
 unfoldable pub list_refused : List ℕ → Option Refusal
 list_refused xs = option_map BadPass (first_fault xs)
 
--- a room has a number for each of n passes
+-- a room is turned away if it doesn't have a number for each of n passes
 unfoldable pub room_refused : (n room : ℕ) → Option Refusal
 room_refused n room = cond (room == n) None (Some (BadRoom room))
 
@@ -41,6 +41,6 @@ room_refused n room = cond (room == n) None (Some (BadRoom room))
 unfoldable pub refused : (k t : ℕ) → List ℕ → Option Refusal
 refused k t xs = or_else (station_refused k t) (list_refused xs)
 
--- the same, with a room of the given length
+-- the refusal that applies to a station, a list of numbers and a room of the given length: the room is looked at last
 unfoldable pub refused_with_room : (k t : ℕ) → List ℕ → (room : ℕ) → Option Refusal
 refused_with_room k t xs room = or_else (refused k t xs) (room_refused (length (passes_in xs)) room)

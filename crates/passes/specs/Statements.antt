@@ -14,7 +14,7 @@ use Rattle.passes.specs.Verdicts.{Verdict, TrueVerdict}
 abbrev pub TestIsRule : Type 0
 TestIsRule = (s : Station) (ps : List Pass) (ds : Plan) → (fits s ps ds ≡ true → GoodPlan s ps ds) × (GoodPlan s ps ds → fits s ps ds ≡ true)
 
--- of each plan one verdict is true
+-- of each plan at most one verdict is true
 abbrev pub OneVerdict : Type 0
 OneVerdict = (s : Station) (ps : List Pass) (ds : Plan) (v w : Verdict) → TrueVerdict s ps ds v → TrueVerdict s ps ds w → v ≡ w
 

@@ -19,7 +19,7 @@ WrongWith s ps ds i (TooNear j) = (0 < says ds i) × (says ds i ≤ s.dishes) ×
 abbrev pub FirstFlaw : Station → List Pass → Plan → Flaw → Type 0
 FirstFlaw s ps ds flaw = (flaw.pass < length ps) × WrongWith s ps ds flaw.pass flaw.fault × ((k : ℕ) → k < flaw.pass → SoundAt s ps ds k)
 
--- what is said of a plan: what it is worth, or what is wrong with it
+-- a verdict says of a plan what it is worth, or what is wrong with it
 abbrev pub Verdict : Type 0
 Verdict = Result ℕ Flaw
 

@@ -85,7 +85,7 @@ pub fn judge(dishes: u64, turn: u64, numbers: &[u32], plan: &[u8]) -> Result<Ver
     night.judge(plan)
 }
 
-// A plan that has a number for each pass. Kept: passes and plan are two lists, as a rule of the project has plans lent.
+// A plan that has a number for each pass. Kept: passes and plan are two lists, since the plan is the caller's and is lent.
 #[derive(Drop)]
 struct Judged<'a> {
     station: Station,

@@ -13,7 +13,7 @@ mod refusals;
 
 pub use judging::{Fault, Flaw, Verdict, judge};
 pub use laws::{place_stands, rule_stands, taken_stands, touching_stands, verdict_stands};
-pub use model::{OutOfRange, Pass, Station};
+pub use model::{MAX_MARKS, MAX_SECOND, MAX_WORTH, OutOfRange, Pass, Station};
 pub use nights::{MAX_DISHES, MAX_PASSES, Night};
 pub use refusals::Refusal;
 

@@ -7,11 +7,14 @@ ghost use Rattle.passes.specs.Texts.{out_of_range_text};
 use std::error::Error;
 use std::fmt;
 
-const MAX_SECOND: u32 = 1_000_000;
+// The last second in which a pass may end.
+pub const MAX_SECOND: u32 = 1_000_000;
 
-const MAX_WORTH: u32 = 1_000_000;
+// How much a pass may be worth.
+pub const MAX_WORTH: u32 = 1_000_000;
 
-const MAX_MARKS: u32 = 15;
+// The marks of all dishes that a station may have.
+pub const MAX_MARKS: u32 = 15;
 
 // A satellite's pass over the station: from the second `from` up to but not with the second `to`.
 #[derive(Clone, Copy)]

@@ -3,8 +3,10 @@ ghost use Rattle.passes.specs.Checks.{checked, most_passes};
 
 use crate::model::{Pass, Station};
 
+// How many passes a list may have.
 pub const MAX_PASSES: usize = 48;
 
+// How many dishes a station may have.
 pub const MAX_DISHES: usize = 4;
 
 // A station and a list of passes that were taken.

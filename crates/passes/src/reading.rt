@@ -9,6 +9,7 @@ use crate::model::{Pass, Station};
 use crate::nights::{MAX_DISHES, MAX_PASSES, Night};
 use crate::refusals::Refusal;
 
+// How many seconds a dish may take to turn.
 const MAX_TURN: u64 = 100_000;
 
 // What stands in a night's room past its last pass.
@@ -119,7 +120,7 @@ fn sound_pass(numbers: &[u32], i: usize) -> Result<Pass, Refusal>
     let Ok(pass) = Pass::try_from(four) else {
         return at_fault;
     };
-    // Kept: neighbours are compared by index over the lent numbers, as a rule of the project has it.
+    // Kept: neighbours are compared by index over the lent numbers, of which this pass is read and the one before it was.
     if i > 0 && pass.from < numbers[4 * (i - 1)] {
         return at_fault;
     }

@@ -19,7 +19,7 @@ pub enum Refusal {
 }
 
 impl Refusal {
-    // The number by which users know it. Kept: the planning entry answers this number, to C as well.
+    // The number by which users know it. Kept: a number, since the planning entry answers it where there is no `Result`, as for a caller in C.
     pub fn number(self) -> u64
         ensures { result ≡ number_of self }
     {
