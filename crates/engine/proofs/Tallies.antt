@@ -2,10 +2,10 @@
 use Rattle.std.proofs.Common.{◌≡◌, ℕ, ◌+◌, ◌-◌, ◌*◌, ◌≤◌, List, [], ◌∷◌, length, Some, None, Option, sym, refl, ap, ◌∙◌, add-zero, add_assoc, add-mul, arith}
 use Rattle.std.proofs.lemmas.Bool.{le-ltb, lt-ltb, ltb-false, ltb-true}
 use Rattle.std.specs.Option.{option_map, option_map_or, option_and_then}
-use Rattle.engine.specs.declared.gains.Tally.{Tally}
+use Rattle.engine.specs.declared.summed.Tally.{Tally}
 use Rattle.engine.specs.Runs.{MoveLaws, leads, Way}
 use Rattle.engine.specs.Problems.{Hopeless, Covers, Answered}
-use Rattle.engine.specs.Summing.{mapped_some, tally_move_laws}
+use Rattle.engine.specs.Lawful.{mapped_some, tally_move_laws}
 use Rattle.engine.proofs.Ways.{fine_along}
 use Rattle.engine.specs.Gaining.{Gaining, SumLaws, gained, Bound, KeepsUp, GainAnswered, tally_step, tallied}
 

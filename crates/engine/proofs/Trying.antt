@@ -6,7 +6,7 @@ use Rattle.std.proofs.lemmas.Bool.{both_ways, cases_Bool}
 use Rattle.engine.specs.Runs.{MoveLaws, leads}
 use Rattle.engine.specs.Problems.{Model, OrderLaws, Final, Covers, Answered}
 use Rattle.engine.specs.declared.seen.Seen.{Seen}
-use Rattle.engine.specs.Searching.{beats, Unbeaten, Holds, Improved, Passed, Known, choice_at}
+use Rattle.engine.specs.Searching.{beats, Unbeaten, Holds, Improved, Exhausted, Known, choice_at}
 use Rattle.engine.proofs.Ways.{way_end, way_first, fine_run}
 
 -- two exchanges of the same choices leave all as they were
@@ -77,12 +77,12 @@ module _ {S : Type 0} (m : Model S) where
       tried turn (choice_offered first next.choice (m.moves.choices i) offered is_choice) next.next (rw back next.step) next.rest e next.way
 
   -- what stands at a place of the table
-  pub known_at : (table : List (Option (Seen S))) (k : ℕ) (d : Option (Seen S)) (x : Seen S) (best : Option S) → k < length table → get_or table k d ≡ Some x → Known m table best → Passed m best x
+  pub known_at : (table : List (Option (Seen S))) (k : ℕ) (d : Option (Seen S)) (x : Seen S) (best : Option S) → k < length table → get_or table k d ≡ Some x → Known m table best → Exhausted m best x
   known_at table k d x best l is known = rw is at (known k d l)
 
   -- one state more in the table
-  pub known_more : (table table₁ : List (Option (Seen S))) (k : ℕ) (x : Seen S) (best : Option S) → table₁ ≡ set table k (Some x) → Passed m best x → Known m table best → Known m table₁ best
-  known_more table table₁ k x best same passed known = rw same (All-set (λ o. IfSome o (Passed m best)) table k (Some x) passed known)
+  pub known_more : (table table₁ : List (Option (Seen S))) (k : ℕ) (x : Seen S) (best : Option S) → table₁ ≡ set table k (Some x) → Exhausted m best x → Known m table best → Known m table₁ best
+  known_more table table₁ k x best same passed known = rw same (All-set (λ o. IfSome o (Exhausted m best)) table k (Some x) passed known)
 
   -- a state that one before it covers
   pub unbeaten_covered : (i : ℕ) (a b : S) (best : Option S) → Covers m i a b → Unbeaten m i a best → Unbeaten m i b best

@@ -1,7 +1,7 @@
 -- Decisions that gain something. Assumes nothing: these are definitions.
 use Rattle.std.specs.Prelude.{◌≡◌, ℕ, ◌+◌, ◌*◌, ◌^◌, ◌<◌, ◌≤◌, List, [], ◌∷◌, Some, None, Option, nat_lt}
 use Rattle.std.specs.Option.{option_map, option_map_or}
-use Rattle.engine.specs.declared.gains.Tally.{Tally}
+use Rattle.engine.specs.declared.summed.Tally.{Tally}
 use Rattle.engine.specs.Runs.{Step, Moves, Way, Run}
 use Rattle.engine.specs.Problems.{Model, Order, in_order}
 
@@ -9,14 +9,14 @@ use Rattle.engine.specs.Problems.{Model, Order, in_order}
 abbrev pub Gain : Type 0 → Type 0
 Gain S = ℕ → ℕ → S → ℕ
 
--- a sequence of decisions by which something is gained
+-- a sequence of decisions by which something is gained: what the trait `Gains` answers
 pub record Gaining (S : Type 0) : Type 1 where
   pub moves : Moves S
   pub gain : Gain S
   -- no choice gains more
   pub most : ℕ
 
--- these decisions, by which that is gained
+-- a sequence of decisions by which so much is gained, and by no choice more than the last number
 abbrev pub gaining : {S : Type 0} → Moves S → Gain S → ℕ → Gaining S
 gaining v gain most = record { moves = v; gain = gain; most = most }
 
@@ -57,11 +57,11 @@ GainAnswered {S} g room (Some n) after = BestGain g after n
 abbrev pub tally_start : {S : Type 0} → Gaining S → Tally S
 tally_start g = record { state = g.moves.start; gained = 0 }
 
--- a step of them
+-- a step of the same decisions over states with what was gained so far
 abbrev pub tally_step : {S : Type 0} → Gaining S → Step (Tally S)
 tally_step g i c t = option_map (λ u. record { state = u; gained = t.gained + g.gain i c t.state }) (g.moves.step i c t.state)
 
--- these decisions
+-- the same decisions over states with what was gained so far
 abbrev pub tally_moves : {S : Type 0} → Gaining S → Moves (Tally S)
 tally_moves g = record {
   stages = g.moves.stages;
@@ -71,10 +71,10 @@ tally_moves g = record {
   fine = λ i t. g.moves.fine i t.state × (t.gained ≤ i * g.most);
 }
 
--- whoever has gained more is ahead
+-- of states with what was gained so far, the one that has gained more is ahead
 abbrev pub tally_order : {S : Type 0} → Order (Tally S)
 tally_order t u = nat_lt u.gained t.gained
 
--- and these decisions in this order
+-- the same decisions over states with what was gained so far, in the order of what was gained
 abbrev pub tallied : {S : Type 0} → Gaining S → Model (Tally S)
 tallied g = in_order (tally_moves g) tally_order

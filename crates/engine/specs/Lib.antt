@@ -2,5 +2,5 @@ pub mod Runs
 pub mod Problems
 pub mod Searching
 pub mod Gaining
-pub mod Summing
+pub mod Lawful
 pub mod Mapping

@@ -6,17 +6,17 @@ use Rattle.engine.specs.Runs.{Moves, Way, Run}
 abbrev pub Order : Type 0 → Type 0
 Order S = S → S → Bool
 
--- what is asked of it: no state is ahead of itself, and who is ahead of one is ahead of all behind that one
+-- what is asked of an order: no state is ahead of itself, and who is ahead of one is ahead of all behind that one
 pub record OrderLaws {S : Type 0} (ahead : Order S) : Type 0 where
   pub not_itself : (s : S) → ahead s s ≡ false
   pub onward : (s t u : S) → ahead s t ≡ true → ahead t u ≡ true → ahead s u ≡ true
 
--- a sequence of decisions, and which of two final states is the better one
+-- a sequence of decisions, and which of two final states is the better one: what the trait `Problem` answers
 pub record Model (S : Type 0) : Type 1 where
   pub moves : Moves S
   pub ahead : Order S
 
--- these decisions with that order
+-- a sequence of decisions with an order of its final states
 abbrev pub in_order : {S : Type 0} → Moves S → Order S → Model S
 in_order v ahead = record { moves = v; ahead = ahead }
 

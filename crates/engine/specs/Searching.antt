@@ -20,14 +20,14 @@ Holds m None room = Unit {0}
 Holds m (Some b) room = Run m.moves room b
 
 -- what stands at a place of the table is a state of a stage before the end, and no way on from it ends ahead of the best so far
-pub record Passed {S : Type 0} (m : Model S) (best : Option S) (x : Seen S) : Type 0 where
+pub record Exhausted {S : Type 0} (m : Model S) (best : Option S) (x : Seen S) : Type 0 where
   pub within : x.stage < m.moves.stages
   pub fine : m.moves.fine x.stage x.state
   pub unbeaten : Unbeaten m x.stage x.state best
 
--- so it is with whatever stands in the table
+-- no way on from whatever state stands in the table ends ahead of the best so far
 abbrev pub Known : {S : Type 0} → Model S → (table : List (Option (Seen S))) → Option S → Type 0
-Known m table best = All (λ o. IfSome o (Passed m best)) table
+Known m table best = All (λ o. IfSome o (Exhausted m best)) table
 
 -- there is no best so far, and nothing stands in the table
 abbrev pub Fresh : {S : Type 0} → Option S → (table : List (Option (Seen S))) → Type 0

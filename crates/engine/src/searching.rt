@@ -1,4 +1,4 @@
-// The search: depth first, through all choices of all stages.
+// The search: depth first, through all choices of all stages but those that can't lead to a better end.
 ghost use Rattle.std.specs.Prelude.{◌≡◌, ◌<◌, ◌⊎◌, true, false, length, take, None};
 ghost use Rattle.std.specs.List.{All};
 ghost use Rattle.engine.specs.Runs.{leads, Run};
@@ -22,7 +22,8 @@ struct Exploring<'a, P: Problem> {
 }
 
 impl<P: Problem> Exploring<'_, P> {
-    // Tries every way on from a state, to which the choices made so far lead.
+    // Tries every way on from a state, to which the choices made so far lead, but for those that can't end ahead of the
+    // best so far.
     // Kept: `made` beside the struct. As a field that `keep_better` lends to `copy_from_slice` it was tried in four forms, and the goal that it is as
     // it was then stayed open. And stage and state come one by one, as in `Decisions`.
     fn explore(&mut self, stage: usize, state: P::State, made: &mut [u8])

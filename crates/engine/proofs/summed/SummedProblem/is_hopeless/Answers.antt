@@ -2,7 +2,7 @@ use Rattle.std.proofs.Common.{arith}
 use Rattle.std.proofs.lemmas.Bool.{leb-true}
 use Rattle.engine.specs.Gaining.{gaining}
 use Rattle.engine.proofs.Tallies.{bound_hopeless}
-use Rattle.engine.proofs.gains.SummedProblem.is_hopeless.Goals as goal
+use Rattle.engine.proofs.summed.SummedProblem.is_hopeless.Goals as goal
 
 pub returns-then-at-best : goal.returns-then-at-best
 returns-then-at-best g c low =

@@ -1,7 +1,7 @@
 use Rattle.std.proofs.Common.{arith}
 use Rattle.engine.specs.Gaining.{gaining}
 use Rattle.engine.proofs.Tallies.{keeps_up_covers}
-use Rattle.engine.proofs.gains.SummedProblem.covers.Goals as goal
+use Rattle.engine.proofs.summed.SummedProblem.covers.Goals as goal
 
 pub returns-then-seen-at : goal.returns-then-seen-at
 returns-then-seen-at g c told =
