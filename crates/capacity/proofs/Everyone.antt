@@ -13,7 +13,7 @@ use Rattle.passes.proofs.Goodness.{fits_from, fits_says}
 use Rattle.capacity.specs.Assignments.{AllOpen, FollowsAll}
 use Rattle.capacity.specs.Order.{EachEnds}
 use Rattle.capacity.specs.Statements.{AllCanBeFollowed}
-use Rattle.capacity.proofs.Greedy.{Free, Held, all_zero, none_followed, followed_within, says_new, enough_dishes, one_more, none_free}
+use Rattle.capacity.proofs.Greedy.{Free, Held, all_zero, none_followed, followed_within, says_new, enough_dishes, given_good, none_free}
 
 -- if of each number P or Q holds, P holds of some number below n, or Q of all of them
 some_or_all : (P Q : ℕ → Type 0) → ((k : ℕ) → P k ⊎ Q k) → (n : ℕ) → ((k : ℕ) × (k < n) × P k) ⊎ ((k : ℕ) → k < n → Q k)
@@ -82,7 +82,7 @@ module _ (s : Station) (ps : List Pass) (ends : EachEnds ps) (hear : AllOpen s.d
       (some_or_all (Free s ps ds i) (Held s ps ds i) (free_or_held s ps ds h.good i) s.dishes) in
       record {
         plan = set ds i (suc free.0);
-        good = one_more s ps ds h.good i within free.0 free.1 (hear i within free.0 free.1) free.2;
+        good = given_good s ps ds h.good i within free.0 free.1 (hear i within free.0 free.1) free.2;
         those = λ j l.
             ⊎_elim
             (λ same.

@@ -9,7 +9,7 @@ use Rattle.passes.specs.Rule.{nth}
 use Rattle.capacity.specs.Alone.{gain_of, only, BestAlone, RightFrom}
 use Rattle.capacity.specs.Order.{InTime, FirstFrom}
 use Rattle.capacity.proofs.Chains.{Alone, able, gain_none}
-use Rattle.capacity.proofs.Tables.{one_most, entry_past, entry_falls, entry_unable, entry_able, skip_at, skip_gain, follow_at, follow_gain, up_to, comes_later}
+use Rattle.capacity.proofs.Tables.{one_most, entry_past, entry_falls, entry_unable, entry_able, skip_at, skip_gain, follow_at, follow_gain, gap_reaches, comes_later}
 
 -- the front of a room, one number on
 front_more : (room : Plan) (i e k : ℕ) → i < length room → take (i + 1) (set room i e) ++ replicate k 0 ≡ take i room ++ (e ∷ replicate k 0)
@@ -82,7 +82,7 @@ module _ (s : Station) (d : ℕ) (ps : List Pass) (gs table : List ℕ) where
     unfolding Led
     led_follow next after room first l turned more h =
         let later = comes_later s ps timed i after within first in
-        leads_at _ _ _ _ (sym (front_more room i (suc d) (after - (i + 1)) l)) (sym (up_to i after later)) (leads_follow after first (take i room) more (led_turned next i room turned h))
+        leads_at _ _ _ _ (sym (front_more room i (suc d) (after - (i + 1)) l)) (sym (gap_reaches i after later)) (leads_follow after first (take i room) more (led_turned next i room turned h))
 
   -- at the end the room holds a best plan
   pub led_best : length gs ≡ length ps → RightFrom 0 s d ps gs table → (next : ℕ) (room : Plan) → length room ≡ length ps → next ≤ length ps → Led next (length ps) room → BestAlone s d ps gs room

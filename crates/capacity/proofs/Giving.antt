@@ -10,7 +10,7 @@ use Rattle.passes.specs.Rule.{nth, says, GoodPlan}
 use Rattle.passes.proofs.Goodness.{fits_from}
 use Rattle.capacity.specs.Assignments.{FirstOverfull, FollowsAll}
 use Rattle.capacity.specs.Order.{InTime}
-use Rattle.capacity.proofs.Greedy.{says_new, enough_dishes, one_more, none_free}
+use Rattle.capacity.proofs.Greedy.{says_new, enough_dishes, given_good, none_free}
 
 -- a plan that follows the first i passes and no others; each dish is free from the second in which it has turned from all that it follows
 pub record Given (s : Station) (ps : List Pass) (free : List ℕ) (ds : Plan) (i : ℕ) : Type 0 where
@@ -90,7 +90,7 @@ module _ (s : Station) (ps : List Pass) (in_time : InTime ps) (free : List ℕ) 
     -- so one pass more is followed
     pub give_one : Given s ps (set free d last) (set ds i (suc d)) (i + 1)
     give_one = record {
-      good = one_more s ps ds given.good i within d there hears (λ j same. omega (arith, given.turned j d same));
+      good = given_good s ps ds given.good i within d there hears (λ j same. omega (arith, given.turned j d same));
       done = λ j l. ⊎_elim (λ (same : j ≡ i). rw (same, says_here) (omega arith)) (λ other. rw (says_other j other) (given.done j (omega arith))) (cases_eq j i);
       rest = λ j l. rw (says_other j (omega arith)) (given.rest j (omega arith));
       turned = turned_more;

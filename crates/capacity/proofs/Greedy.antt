@@ -112,8 +112,8 @@ module _ (s : Station) (ps : List Pass) (ds : Plan) (good : GoodPlan s ps ds) wh
         }
 
     -- so the plan is good that gives the dish to the pass
-    pub one_more : GoodPlan s ps (set ds i (suc d))
-    one_more = record {
+    pub given_good : GoodPlan s ps (set ds i (suc d))
+    given_good = record {
       one_each = length-set ds i (suc d) ∙ good.one_each;
       each = λ k l. ⊎_elim (λ same. rw same sound_here) (λ other. sound_there k l other) (cases_eq k i);
     }

@@ -9,7 +9,7 @@ use Rattle.passes.specs.declared.model.Station.{Station}
 use Rattle.passes.specs.Checks.{in_range, all_in_range, checked}
 use Rattle.passes.specs.Plans.{Plan, fits_one, fits, worth_of, Best}
 use Rattle.passes.proofs.Goodness.{fits_one_says}
-use Rattle.capacity.specs.Alone.{gain_of, worths, BestAlone, Planned}
+use Rattle.capacity.specs.Alone.{gain_of, worths, BestAlone, BestPlanWorth}
 
 -- what a good plan of a station with one dish is worth, that dish gains
 worth_gained : (s : Station) → s.dishes ≡ 1 → (ps : List Pass) (ds : Plan) → fits s ps ds ≡ true → worth_of ps ds ≡ gain_of 0 (worths ps) ds
@@ -22,7 +22,7 @@ worth_gained s one (p ∷ ps) (d ∷ ds) h =
     let rest = worth_gained s one ps ds parts.1 in
     grind (arith, nat_tests)
 
-pub planned_alone : (s : Station) → s.dishes ≡ 1 → (ps : List Pass) (ds : Plan) (w : ℕ) → BestAlone s 0 ps (worths ps) ds → gain_of 0 (worths ps) ds ≡ w → Planned s ps ds w
+pub planned_alone : (s : Station) → s.dishes ≡ 1 → (ps : List Pass) (ds : Plan) (w : ℕ) → BestAlone s 0 ps (worths ps) ds → gain_of 0 (worths ps) ds ≡ w → BestPlanWorth s ps ds w
 unfolding Best
 planned_alone s one ps ds w h gain = record {
   best = (h.good, λ es good. let most = h.most es good in omega (arith, worth_gained s one ps es good, worth_gained s one ps ds h.good));

@@ -16,11 +16,11 @@ use Rattle.capacity.specs.Order.{InTime, FirstFrom}
 use Rattle.capacity.proofs.Chains.{fits_drop, gain_other, gain_followed, gain_idle, gain_bound, Alone, able, alone_skip, alone_follow}
 
 -- from one place to a later one, and the list from there
-pub up_to : (i next : ℕ) → i < next → i + 1 + (next - (i + 1)) ≡ next
-up_to i next later = omega arith
+pub gap_reaches : (i next : ℕ) → i < next → i + 1 + (next - (i + 1)) ≡ next
+gap_reaches i next later = omega arith
 
-drop-up_to : {X : Type 0} (xs : List X) (i next : ℕ) → i < next → drop (next - (i + 1)) (drop (i + 1) xs) ≡ drop next xs
-drop-up_to xs i next later = drop-drop (next - (i + 1)) (i + 1) xs ∙ ap (λ n. drop n xs) (up_to i next later)
+drop-gap : {X : Type 0} (xs : List X) (i next : ℕ) → i < next → drop (next - (i + 1)) (drop (i + 1) xs) ≡ drop next xs
+drop-gap xs i next later = drop-drop (next - (i + 1)) (i + 1) xs ∙ ap (λ n. drop n xs) (gap_reaches i next later)
 
 module _ (s : Station) (d : ℕ) where
   -- a plan that gains the most is one of the dish alone
@@ -118,7 +118,7 @@ sum_later gs i next l later =
       sum_by-take-drop own gs i,
       sum_by-drop_more own gs i 0 l,
       sum_by-take-drop own (drop (i + 1) gs) (next - (i + 1)),
-      ap sum (drop-up_to gs i next later),
+      ap sum (drop-gap gs i next later),
     )
 
 module _ (s : Station) (d : ℕ) (ps : List Pass) (gs : List ℕ) (long : length gs ≡ length ps) where
@@ -188,13 +188,13 @@ module _ (s : Station) (ps : List Pass) (timed : InTime ps) (i next : ℕ) (with
     pub entry_able : able s d (nth ps i) ≡ true → (b c : ℕ) → GainsMost s d (drop (i + 1) ps) (drop (i + 1) gs) b → GainsMost s d (drop next ps) (drop next gs) c → GainsMost s d (drop i ps) (drop i gs) (max b (get_or gs i 0 + c))
     entry_able can b c rest later =
         rw (drop_more ps i no_pass within, this_gain)
-        (gains_able s d (nth ps i) (drop (i + 1) ps) (get_or gs i 0) (drop (i + 1) gs) b rest gap gap_within c (rw (drop-up_to ps i next comes_later, drop-up_to gs i next comes_later) later) can far near)
+        (gains_able s d (nth ps i) (drop (i + 1) ps) (get_or gs i 0) (drop (i + 1) gs) b rest gap gap_within c (rw (drop-gap ps i next comes_later, drop-gap gs i next comes_later) later) can far near)
 
     -- the plan that follows this pass and goes on with one from there, and what it gains
     pub follow_at : able s d (nth ps i) ≡ true → (qs : Plan) → Alone s d (drop next ps) qs → Alone s d (drop i ps) (suc d ∷ (replicate gap 0 ++ qs))
-    follow_at can qs h = rw (drop_more ps i no_pass within) (alone_follow s d (nth ps i) (drop (i + 1) ps) gap gap_within can far qs (rw (drop-up_to ps i next comes_later) h))
+    follow_at can qs h = rw (drop_more ps i no_pass within) (alone_follow s d (nth ps i) (drop (i + 1) ps) gap gap_within can far qs (rw (drop-gap ps i next comes_later) h))
 
     pub follow_gain : (qs : Plan) → gain_of d (drop i gs) (suc d ∷ (replicate gap 0 ++ qs)) ≡ get_or gs i 0 + gain_of d (drop next gs) qs
     follow_gain qs =
-        let rest = gain_idle d gap (drop (i + 1) gs) qs ∙ ap (λ l. gain_of d l qs) (drop-up_to gs i next comes_later) in
+        let rest = gain_idle d gap (drop (i + 1) gs) qs ∙ ap (λ l. gain_of d l qs) (drop-gap gs i next comes_later) in
         rw this_gain (gain_followed d (get_or gs i 0) (drop (i + 1) gs) (replicate gap 0 ++ qs) ∙ ap (λ n. get_or gs i 0 + n) rest)

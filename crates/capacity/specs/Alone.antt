@@ -34,6 +34,6 @@ abbrev pub worths : List Pass → List ℕ
 worths ps = map (λ p. p.worth) ps
 
 -- the room holds a best plan, and w is what it is worth
-pub record Planned (s : Station) (ps : List Pass) (room : Plan) (w : ℕ) : Type 0 where
+pub record BestPlanWorth (s : Station) (ps : List Pass) (room : Plan) (w : ℕ) : Type 0 where
   pub best : Best s ps room
   pub worth : w ≡ worth_of ps room

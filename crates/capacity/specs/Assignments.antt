@@ -40,7 +40,7 @@ pub record FirstOverfull (s : Station) (ps : List Pass) (x : ℕ) : Type 0 where
 abbrev pub NoneFree : ℕ → (free : List ℕ) → (x : ℕ) → Type 0
 NoneFree n free x = (d : ℕ) → d < n → x < slice_index free d
 
--- d is the first dish that is
+-- d is the first dish that is free in the second x, by the seconds from which each is
 pub record FirstFree (free : List ℕ) (x d : ℕ) : Type 0 where
   pub within : d < length free
   pub is_free : slice_index_or free d 0 ≤ x
@@ -61,7 +61,7 @@ Assigned s ps (Err (TurnedAway refusal)) after = ⊤
 Assigned s ps (Err (NotOpen i)) after = FirstClosed s.dishes ps i
 Assigned s ps (Err (TooMany x)) after = AllOpen s.dishes ps × FirstOverfull s ps x
 
--- what is printed of it
+-- what is printed where not every pass is given a dish
 abbrev pub unassigned_text : Unassigned → List ℕ
 unassigned_text (TurnedAway refusal) = codes "turned away, " ++ refusal_text refusal
 unassigned_text (NotOpen i) = codes "not every dish may follow pass " ++ decimal i

@@ -8,12 +8,12 @@ use Rattle.std.proofs.Props.{props}
 abbrev pub EachEnds : List Pass → Type 0
 EachEnds ps = (i : ℕ) → i < length ps → (nth ps i).from < (nth ps i).to
 
--- and none begins before one that stands before it
+-- each pass of a list ends after it begins, and none begins before one that stands before it
 pub record InTime (ps : List Pass) : Type 0 where
   pub ends : EachEnds ps
   pub order : (i j : ℕ) → i ≤ j → j < length ps → (nth ps i).from ≤ (nth ps j).from
 
--- any two proofs of it are the same
+-- any two proofs that passes are in order of time are the same
 pub InTime-prop : (ps : List Pass) → IsProp (InTime ps)
 InTime-prop ps a b =
     let ends : IsProp (EachEnds ps) = Prim.hlevel props in

@@ -6,7 +6,7 @@ ghost use Rattle.passes.specs.Follow.{may};
 ghost use Rattle.passes.specs.Nights.{passes_of, station_of};
 ghost use Rattle.passes.specs.Numbers.{passes_in};
 ghost use Rattle.passes.specs.Refusals.{refused_with_room};
-ghost use Rattle.capacity.specs.Alone.{BestAlone, RightFrom, worths, Planned};
+ghost use Rattle.capacity.specs.Alone.{BestAlone, RightFrom, worths, BestPlanWorth};
 ghost use Rattle.capacity.specs.Order.{InTime, InTime-prop, FirstFrom};
 
 use passes::{MAX_PASSES, Night, Pass, Refusal, Station};
@@ -19,7 +19,7 @@ const MAX_ENTRIES: usize = MAX_PASSES + 1;
 // Kept: what it is lent comes one by one, as in `Night::read`, and the room is to be written.
 pub fn plan_one_dish(turn: u64, numbers: &[u32], room: &mut [u8]) -> Result<u64, Refusal>
     ensures refusal { result_err result ≡ refused_with_room 1 turn numbers.now (length room.old) }
-    ensures planned { MatchResult result (λ w. Planned (station_of 1 turn) (passes_in numbers.now) room.new w) (λ _. room.new ≡ room.old) }
+    ensures planned { MatchResult result (λ w. BestPlanWorth (station_of 1 turn) (passes_in numbers.now) room.new w) (λ _. room.new ≡ room.old) }
 {
     let night = Night::read_for_room(1, turn, numbers, room.len())?;
     let mut table = [0; MAX_ENTRIES];
@@ -31,7 +31,7 @@ pub fn plan_one_dish(turn: u64, numbers: &[u32], room: &mut [u8]) -> Result<u64,
 fn plan_alone(night: &Night, table: &mut [u64; MAX_ENTRIES], room: &mut [u8]) -> u64
     requires one_dish { night.now.station.dishes ≡ 1 }
     requires one_each { length room.old ≡ length (passes_of night.now) }
-    ensures { Planned night.now.station (passes_of night.now) room.new result }
+    ensures { BestPlanWorth night.now.station (passes_of night.now) room.new result }
 {
     let passes = night.passes();
     let count = passes.len();
@@ -73,8 +73,8 @@ pub struct OneDish<'a> {
 impl OneDish<'_> {
     // Fills a table, from its end, with the most that the dish can gain from each pass on: it leaves the pass out, or follows it and goes on
     // with the first that begins late enough after it.
-    // Kept: the gains are a list beside the passes, which is no less plain, since the planner above is to look at one list of passes with many lists
-    // of gains; and by index, since one entry of the table is written and two behind it are read.
+    // Kept: the gains are a list beside the passes, which is no less plain, since pruning looks at one list of passes
+    // with many lists of gains; and by index, since one entry of the table is written and two behind it are read.
     pub fn fill_table(&self, gains: &[u64], table: &mut [u64])
         requires a_gain_each { length gains.now ≡ length self.now.passes.now }
         requires sum_fits { sum gains.now < 2 ^ 64 }

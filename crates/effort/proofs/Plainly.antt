@@ -8,14 +8,14 @@ use Rattle.passes.specs.declared.nights.Night.{Night}
 use Rattle.passes.specs.Nights.{NightOf, passes_of}
 use Rattle.passes.specs.Plans.{Plan}
 use Rattle.passes.specs.Statements.{BestWorth}
-use Rattle.capacity.specs.Alone.{Planned}
+use Rattle.capacity.specs.Alone.{BestPlanWorth}
 use Rattle.planner.specs.Nights.{night}
 use Rattle.planner.proofs.Following.{some_gain}
 use Rattle.planner.proofs.Stations.{planned_from_gain}
 use Rattle.effort.specs.Comparisons.{BestOf}
 
 -- what a best plan is worth, from one that is in a room
-pub best_worth : (s : Station) (ps : List Pass) (room : Plan) (w : ℕ) → Planned s ps room w → BestWorth s ps w
+pub best_worth : (s : Station) (ps : List Pass) (room : Plan) (w : ℕ) → BestPlanWorth s ps room w → BestWorth s ps w
 best_worth s ps room w h = (room, h.best, sym h.worth)
 
 module _ (t : ℕ) (xs : List ℕ) (n : Night) (read : NightOf 4 t xs n) where

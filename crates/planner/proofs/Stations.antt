@@ -10,7 +10,7 @@ use Rattle.passes.specs.declared.model.Station.{Station}
 use Rattle.passes.specs.Checks.{checked}
 use Rattle.passes.specs.Plans.{Plan, fits_one, fits, Best}
 use Rattle.passes.specs.Rule.{says}
-use Rattle.capacity.specs.Alone.{Planned}
+use Rattle.capacity.specs.Alone.{BestPlanWorth}
 use Rattle.capacity.specs.Order.{InTime}
 use Rattle.capacity.proofs.Timing.{in_time_from_checked, few_dishes_from_checked}
 use Rattle.pruning.specs.declared.rounding.TheConstants.{MOST_DISHES}
@@ -89,7 +89,7 @@ module _ (s : Station) (ps : List Pass) (ok : checked s ps ≡ true) where
       }
 
   -- a run that gains the most is a best plan
-  pub planned_from_gain : (room : Plan) (n : ℕ) → BestGain (night (turns_of s) ps) room n → Planned s ps room n
+  pub planned_from_gain : (room : Plan) (n : ℕ) → BestGain (night (turns_of s) ps) room n → BestPlanWorth s ps room n
   unfolding Best
   planned_from_gain room n h =
       let same = night_of_station in

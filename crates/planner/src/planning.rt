@@ -5,7 +5,7 @@ ghost use Rattle.engine.specs.Gaining.{BestGain};
 ghost use Rattle.passes.specs.Nights.{passes_of, station_of};
 ghost use Rattle.passes.specs.Numbers.{passes_in};
 ghost use Rattle.passes.specs.Refusals.{room_refused, refused_with_room};
-ghost use Rattle.capacity.specs.Alone.{Planned as BestPlanWorth};
+ghost use Rattle.capacity.specs.Alone.{BestPlanWorth};
 ghost use Rattle.planner.specs.Answers.{done_of, DoneSays};
 ghost use Rattle.planner.specs.Nights.{night as night_of};
 
