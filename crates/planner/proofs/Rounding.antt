@@ -11,7 +11,7 @@ use Rattle.engine.proofs.Mapping.{same_runs}
 use Rattle.passes.specs.declared.model.Pass.{Pass}
 use Rattle.passes.specs.Rule.{nth}
 use Rattle.capacity.specs.Order.{InTime}
-use Rattle.pruning.specs.declared.rounding.TheConstants.{MOST_DISHES}
+use Rattle.pruning.specs.declared.rounding.TheConstants.{WIDE_DISHES}
 use Rattle.pruning.specs.declared.rounding.NextPasses.{NextPasses}
 use Rattle.pruning.specs.Rounding.{suits, next_pass, each_dish, free_after, next_then, allowed, go_on, rounded_night}
 use Rattle.pruning.specs.Suiting.{next_is, next_none, next_within, next_suits, each_dish_at}
@@ -22,10 +22,10 @@ use Rattle.planner.specs.Nights.{can_follow, after_following, decide, night}
 use Rattle.planner.specs.Statements.{rounded_up, RoundingUp}
 
 -- two states in which each dish has the same
-each_same : (f g : ℕ → ℕ) → ((d : ℕ) → d < MOST_DISHES → f d ≡ g d) → each_dish f ≡ each_dish g
+each_same : (f g : ℕ → ℕ) → ((d : ℕ) → d < WIDE_DISHES → f d ≡ g d) → each_dish f ≡ each_dish g
 each_same f g same =
     ap {A = List ℕ} (λ xs. record { next = xs })
-    (fill_by_all g (each_dish f).next MOST_DISHES 0 refl (λ d l. each_dish_at f d l ∙ same d l))
+    (fill_by_all g (each_dish f).next WIDE_DISHES 0 refl (λ d l. each_dish_at f d l ∙ same d l))
 
 module _ (turns : List ℕ) (ps : List Pass) (time : InTime ps) (i : ℕ) (within : i < length ps) where
   after : i + 1 ≤ length ps
@@ -52,15 +52,15 @@ module _ (turns : List ℕ) (ps : List Pass) (time : InTime ps) (i : ℕ) (withi
       grind (arith, nat_tests))
       (λ l. let it = next_suits turns ps d x (i + 1) after l in grind (arith, nat_tests))
 
-  module _ (few : length turns ≤ MOST_DISHES) (c : ℕ) (s : FreeFrom) (room : length s.seconds ≡ MOST_DISHES) where
+  module _ (few : length turns ≤ WIDE_DISHES) (c : ℕ) (s : FreeFrom) (room : length s.seconds ≡ WIDE_DISHES) where
     abbrev now : NextPasses
     now = rounded_up turns ps i s
 
-    now_of : (d : ℕ) → d < MOST_DISHES → slice_index now.next d ≡ next_pass turns ps d i (slice_index s.seconds d)
+    now_of : (d : ℕ) → d < WIDE_DISHES → slice_index now.next d ≡ next_pass turns ps d i (slice_index s.seconds d)
     now_of d l = each_dish_at (λ e. next_pass turns ps e i (slice_index s.seconds e)) d l
 
     -- a dish that doesn't follow the pass is free when it was
-    not_followed : (d : ℕ) → d < MOST_DISHES → c ≢ d + 1 → next_then turns ps i c now d ≡ next_pass turns ps d (i + 1) (slice_index s.seconds d)
+    not_followed : (d : ℕ) → d < WIDE_DISHES → c ≢ d + 1 → next_then turns ps i c now d ≡ next_pass turns ps d (i + 1) (slice_index s.seconds d)
     not_followed d l other =
         let x = slice_index s.seconds d in
         ⊎_elim
@@ -120,7 +120,7 @@ module _ (turns : List ℕ) (ps : List Pass) (time : InTime ps) (i : ℕ) (withi
 
 pub rounding_up : RoundingUp
 rounding_up turns ps few time =
-    let zeros : (d : ℕ) → slice_index (replicate MOST_DISHES 0) d ≡ 0 = λ d. ⊎_elim (λ within. get_or-replicate MOST_DISHES d 0 0 within) (λ past. get_or_past (replicate MOST_DISHES 0) d 0 past) (cases_lt d MOST_DISHES) in
+    let zeros : (d : ℕ) → slice_index (replicate WIDE_DISHES 0) d ≡ 0 = λ d. ⊎_elim (λ within. get_or-replicate WIDE_DISHES d 0 0 within) (λ past. get_or_past (replicate WIDE_DISHES 0) d 0 past) (cases_lt d WIDE_DISHES) in
     let maps : Mapping (night turns ps) (rounded_night turns ps) (rounded_up turns ps) = record {
       stages = refl;
       start = each_same _ _ (λ d l. ap (next_pass turns ps d 0) (sym (zeros d)));

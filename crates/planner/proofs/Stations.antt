@@ -13,7 +13,7 @@ use Rattle.passes.specs.Rule.{says}
 use Rattle.capacity.specs.Alone.{BestPlanWorth}
 use Rattle.capacity.specs.Order.{InTime}
 use Rattle.capacity.proofs.Timing.{in_time_from_checked, few_dishes_from_checked}
-use Rattle.pruning.specs.declared.rounding.TheConstants.{MOST_DISHES}
+use Rattle.pruning.specs.declared.rounding.TheConstants.{WIDE_DISHES}
 use Rattle.planner.specs.declared.scheduling.FreeFrom.{FreeFrom}
 use Rattle.planner.specs.Dishes.{seen_by, fits_each, turns_of}
 use Rattle.planner.specs.Nights.{night}
@@ -25,16 +25,16 @@ use Rattle.planner.proofs.Bridge.{InReach, one_each, good_from_follow, follow_fr
 zeros : (n k : ℕ) → ◌≡◌ {A = ℕ} (get_or (replicate n 0) k 0) 0
 zeros n k = ⊎_elim (λ within. get_or-replicate n k 0 0 within) (λ past. get_or_past (replicate n 0) k 0 (simp length-replicate past)) (cases_lt k n)
 
-module _ (turns : List ℕ) (ps : List Pass) (few : length turns ≤ MOST_DISHES) (time : InTime ps) where
+module _ (turns : List ℕ) (ps : List Pass) (few : length turns ≤ WIDE_DISHES) (time : InTime ps) where
   run_follows : (ds : Plan) (e : FreeFrom) → Run (night turns ps).moves ds e → (fits_each turns ps ds ≡ true)
   run_follows ds e run =
-      (good_from_follow turns MOST_DISHES few ps ds (night turns ps).moves.start e refl time (omega (arith, run.one_each)) (sym (leads_follow turns ps ds 0 _ (omega (arith, run.one_each))) ∙ run.ends)).0
+      (good_from_follow turns WIDE_DISHES few ps ds (night turns ps).moves.start e refl time (omega (arith, run.one_each)) (sym (leads_follow turns ps ds 0 _ (omega (arith, run.one_each))) ∙ run.ends)).0
 
   good_runs : (ds : Plan) → fits_each turns ps ds ≡ true → (e : FreeFrom) × Run (night turns ps).moves ds e
   good_runs ds good =
       let long = one_each turns ps ds good in
-      let reach : InReach (night turns ps).moves.start ps ds = λ j l some. omega (arith, zeros MOST_DISHES (says ds j - 1)) in
-      let end = follow_from_good turns MOST_DISHES few ps ds (night turns ps).moves.start refl time good reach in
+      let reach : InReach (night turns ps).moves.start ps ds = λ j l some. omega (arith, zeros WIDE_DISHES (says ds j - 1)) in
+      let end = follow_from_good turns WIDE_DISHES few ps ds (night turns ps).moves.start refl time good reach in
       (end.0, record { one_each = omega arith; ends = leads_follow turns ps ds 0 _ (omega arith) ∙ end.1 })
 
 pub each_is_night : EachIsNight
@@ -76,7 +76,7 @@ each_same s (p ∷ ps) [] = refl
 each_same s (p ∷ ps) (d ∷ ds) = rw (one_same p ps ds s d, each_same s ps ds) refl
 
 module _ (s : Station) (ps : List Pass) (ok : checked s ps ≡ true) where
-  few_dishes : length (turns_of s) ≤ MOST_DISHES
+  few_dishes : length (turns_of s) ≤ WIDE_DISHES
   few_dishes = omega (arith, few_dishes_from_checked s ps ok, length-replicate s.dishes s.turn)
 
   night_of_station : PlansAreRuns (fits s ps) ps (night (turns_of s) ps)

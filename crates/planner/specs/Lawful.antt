@@ -4,7 +4,7 @@ use Rattle.std.proofs.lemmas.Bool.Decides.{nat_tests}
 use Rattle.engine.specs.Runs.{MoveLaws}
 use Rattle.engine.specs.Gaining.{SumLaws}
 use Rattle.passes.specs.declared.model.Pass.{Pass}
-use Rattle.pruning.specs.declared.rounding.TheConstants.{MOST_PASSES}
+use Rattle.pruning.specs.declared.rounding.TheConstants.{WIDE_PASSES}
 use Rattle.pruning.specs.Rounding.{Small}
 use Rattle.planner.specs.Nights.{night}
 
@@ -17,7 +17,7 @@ night_moves turns ps = record {
 }
 
 -- no pass is worth more than is said of any, and all together fit
-pub night_sums : (turns : List ℕ) (ps : List Pass) → Small ps → length ps ≤ MOST_PASSES → SumLaws (night turns ps)
+pub night_sums : (turns : List ℕ) (ps : List Pass) → Small ps → length ps ≤ WIDE_PASSES → SumLaws (night turns ps)
 night_sums turns ps small few = record {
   at_most = λ i c s t l fine h. let one = small i l in grind (arith, nat_tests);
   fits = omega arith;

@@ -4,7 +4,7 @@ use Rattle.engine.specs.Gaining.{Gaining}
 use Rattle.passes.specs.declared.model.Pass.{Pass}
 use Rattle.passes.specs.Follow.{may}
 use Rattle.passes.specs.Rule.{nth}
-use Rattle.pruning.specs.declared.rounding.TheConstants.{MOST_DISHES}
+use Rattle.pruning.specs.declared.rounding.TheConstants.{WIDE_DISHES}
 use Rattle.planner.specs.declared.scheduling.FreeFrom.{FreeFrom}
 
 -- the dish that plans call d can follow the pass: it is there, may follow it, and is free when it begins
@@ -25,9 +25,9 @@ night turns ps = record {
   moves = record {
     stages = length ps;
     choices = λ i. length turns + 1;
-    start = record { seconds = replicate MOST_DISHES 0 };
+    start = record { seconds = replicate WIDE_DISHES 0 };
     step = λ i d s. decide turns (nth ps i) d s;
-    fine = λ i s. length s.seconds ≡ MOST_DISHES;
+    fine = λ i s. length s.seconds ≡ WIDE_DISHES;
   };
   gain = λ i d s. cond (d == 0) 0 (nth ps i).worth;
   most = 4294967295;

@@ -11,7 +11,7 @@ ghost use Rattle.planner.specs.Nights.{night as night_of};
 
 use engine::{Summed, gain_most};
 use passes::{MAX_DISHES, Night, Refusal};
-use pruning::{Auction, MOST_PASSES, Priced, Rounded};
+use pruning::{Auction, WIDE_PASSES, Priced, WideNight};
 
 // How many states the search remembers.
 const PLACES: usize = 4096;
@@ -96,7 +96,7 @@ fn plan_night(night: &Night, room: &mut [u8]) -> Counted
     // Kept: an array, of which the front is used, since there is no heap.
     let turns = [station.turn; MAX_DISHES];
     let turns = &turns[..station.dishes as usize];
-    let rounded = Rounded {
+    let rounded = WideNight {
         turns,
         passes: night.passes(),
     };
@@ -105,7 +105,7 @@ fn plan_night(night: &Night, room: &mut [u8]) -> Counted
 
 // Leaves the decisions that gain the most in the room, for dishes each of which takes its own time to turn, and answers how much that is.
 // Kept: the room stands beside the night, to be written.
-fn plan_each(night: Rounded, room: &mut [u8]) -> Counted
+fn plan_each(night: WideNight, room: &mut [u8]) -> Counted
     requires one_each { length room.old ≡ length night.passes.now }
     ensures { BestGain (night_of night.entry.turns.now night.entry.passes.now) room.new result.worth }
 {
@@ -115,7 +115,7 @@ fn plan_each(night: Rounded, room: &mut [u8]) -> Counted
     };
     // The auction's plan is the first to be beaten.
     room.copy_from_slice(&bids.given[..room.len()]);
-    let mut made = [0; MOST_PASSES];
+    let mut made = [0; WIDE_PASSES];
     let mut seen = [None; PLACES];
     let gained = gain_most(&problem, &mut made[..room.len()], &mut seen, room);
     Counted {

@@ -1,6 +1,6 @@
 // A night as a sequence of decisions: on each pass, in order of begin, which dish follows it, if any.
 ghost use Rattle.std.specs.Prelude.{◌≡◌, ◌≤◌, length};
-ghost use Rattle.pruning.specs.declared.rounding.TheConstants.{MOST_DISHES, MOST_PASSES};
+ghost use Rattle.pruning.specs.declared.rounding.TheConstants.{WIDE_DISHES, WIDE_PASSES};
 ghost use Rattle.pruning.specs.Rounding.{Small};
 ghost use Rattle.planner.specs.Sums.{AddsUp};
 ghost use Rattle.planner.specs.Nights.{night};
@@ -8,15 +8,15 @@ ghost use Rattle.planner.specs.Lawful.{night_moves, night_sums};
 
 use engine::{Decisions, Gains};
 use passes::Pass;
-use pruning::{MOST_DISHES, MOST_PASSES};
+use pruning::{WIDE_DISHES, WIDE_PASSES};
 
-const ENTRIES: usize = MOST_PASSES + 1;
+const ENTRIES: usize = WIDE_PASSES + 1;
 
 // The second from which each dish is free.
 // Kept: a place for each of the most dishes, however many there are, since memory is fixed.
 #[derive(Clone, Copy)]
 pub struct FreeFrom {
-    seconds: [u64; MOST_DISHES],
+    seconds: [u64; WIDE_DISHES],
 }
 
 // Passes, and how long each dish takes to turn.
@@ -27,8 +27,8 @@ pub struct Scheduling<'a> {
     // What the passes from each on are worth together.
     // Kept: as long as the most passes ask, since memory is fixed.
     left: [u64; ENTRIES],
-    ghost few_dishes: { length turns.now ≤ MOST_DISHES },
-    ghost few_passes: { length passes.now ≤ MOST_PASSES },
+    ghost few_dishes: { length turns.now ≤ WIDE_DISHES },
+    ghost few_passes: { length passes.now ≤ WIDE_PASSES },
     ghost small: { Small passes.now },
     ghost sums: { AddsUp passes.now 0 left },
 }
@@ -36,8 +36,8 @@ pub struct Scheduling<'a> {
 impl<'a> Scheduling<'a> {
     // The night of these dishes and passes.
     pub fn new(turns: &'a [u32], passes: &'a [Pass]) -> Scheduling<'a>
-        requires few_dishes { length turns.now ≤ MOST_DISHES }
-        requires few_passes { length passes.now ≤ MOST_PASSES }
+        requires few_dishes { length turns.now ≤ WIDE_DISHES }
+        requires few_passes { length passes.now ≤ WIDE_PASSES }
         ensures same_turns { result.turns.now ≡ turns.now }
         ensures same_passes { result.passes.now ≡ passes.now }
     {
@@ -54,7 +54,7 @@ impl<'a> Scheduling<'a> {
 // Kept: by index, since one entry is written and the one behind it is read. With `left.iter_mut().zip(passes).rev()` the proof doesn't know what the
 // entry behind all passes ends as.
 fn add_up(passes: &[Pass]) -> [u64; ENTRIES]
-    requires few_passes { length passes.now ≤ MOST_PASSES }
+    requires few_passes { length passes.now ≤ WIDE_PASSES }
     ensures small { Small passes.now }
     ensures sums { AddsUp passes.now 0 result }
 {
@@ -83,7 +83,7 @@ impl Decisions for Scheduling<'_> {
 
     fn start(&self) -> FreeFrom {
         FreeFrom {
-            seconds: [0; MOST_DISHES],
+            seconds: [0; WIDE_DISHES],
         }
     }
 

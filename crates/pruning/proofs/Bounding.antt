@@ -8,7 +8,7 @@ use Rattle.engine.specs.Gaining.{gained, Bound}
 use Rattle.engine.proofs.Leading.{leads_first}
 use Rattle.passes.specs.declared.model.Pass.{Pass}
 use Rattle.passes.specs.Rule.{nth}
-use Rattle.pruning.specs.declared.rounding.TheConstants.{MOST_DISHES}
+use Rattle.pruning.specs.declared.rounding.TheConstants.{WIDE_DISHES}
 use Rattle.pruning.specs.declared.rounding.NextPasses.{NextPasses}
 use Rattle.pruning.specs.Prices.{together}
 use Rattle.pruning.specs.Rounding.{suits, next_pass, each_dish, free_after, next_then, allowed, Upcoming, rounded_night}
@@ -38,7 +38,7 @@ module _ (n : ℕ) (f : ℕ → ℕ) (falls : (k : ℕ) → k < n → f (k + 1) 
       let there : k + (m - k) ≡ m = omega arith in
       rw there at (falls_by k (m - k) (omega arith))
 
-module _ (turns : List ℕ) (ps : List Pass) (few : length turns ≤ MOST_DISHES) (n : ℕ) (left : ℕ → ℕ) (table : ℕ → ℕ → ℕ) (bounds : Bounds turns ps n left table) where
+module _ (turns : List ℕ) (ps : List Pass) (few : length turns ≤ WIDE_DISHES) (n : ℕ) (left : ℕ → ℕ) (table : ℕ → ℕ → ℕ) (bounds : Bounds turns ps n left table) where
   -- what the dishes can gain from their next passes on
   abbrev pub ahead : NextPasses → ℕ
   ahead s = together (length turns) (λ d. table d (slice_index s.next d))

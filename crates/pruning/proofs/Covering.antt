@@ -7,17 +7,17 @@ use Rattle.engine.specs.Runs.{leads, Way}
 use Rattle.engine.specs.Gaining.{gained}
 use Rattle.engine.proofs.Leading.{leads_first}
 use Rattle.passes.specs.declared.model.Pass.{Pass}
-use Rattle.pruning.specs.declared.rounding.TheConstants.{MOST_DISHES}
+use Rattle.pruning.specs.declared.rounding.TheConstants.{WIDE_DISHES}
 use Rattle.pruning.specs.declared.rounding.NextPasses.{NextPasses}
 use Rattle.pruning.specs.Rounding.{next_pass, each_dish, next_then, allowed, go_on, NoLater, Upcoming, rounded_night}
 use Rattle.pruning.specs.Suiting.{each_dish_at, next_within, next_none}
 use Rattle.pruning.specs.Lawful.{went_on, then_followed, then_waits, then_kept, rounded_moves}
 
-module _ (turns : List ℕ) (ps : List Pass) (few : length turns ≤ MOST_DISHES) where
+module _ (turns : List ℕ) (ps : List Pass) (few : length turns ≤ WIDE_DISHES) where
   -- a decision that b allows
   module _ (i c : ℕ) (a b : NextPasses) (within : i < length ps) (up_a : Upcoming turns ps i a) (up_b : Upcoming turns ps i b) (sooner : NoLater a b) where
     -- what is the next pass in b is so in a
-    next_too : (d : ℕ) → d < MOST_DISHES → slice_index b.next d ≡ i → slice_index a.next d ≡ i
+    next_too : (d : ℕ) → d < WIDE_DISHES → slice_index b.next d ≡ i → slice_index a.next d ≡ i
     next_too d l here = omega (arith, sooner d l, (up_a.each d l).later)
 
     -- so a allows it too
@@ -33,7 +33,7 @@ module _ (turns : List ℕ) (ps : List Pass) (few : length turns ≤ MOST_DISHES
         (cases_eq c 0)
 
     -- the next pass of a dish that waits in a comes no later than one that it still has in b
-    waits_no_longer : (d : ℕ) → d < MOST_DISHES → slice_index b.next d ≢ i → next_pass turns ps d (i + 1) 0 ≤ slice_index b.next d
+    waits_no_longer : (d : ℕ) → d < WIDE_DISHES → slice_index b.next d ≢ i → next_pass turns ps d (i + 1) 0 ≤ slice_index b.next d
     waits_no_longer d l later =
         let after : i + 1 ≤ length ps = omega arith in
         let it = up_b.each d l in

@@ -1,6 +1,6 @@
 pub mod Together
 pub mod Bounding
-pub mod Tables
+pub mod TableBounds
 pub mod Covering
 pub mod Adding
 pub mod Whole

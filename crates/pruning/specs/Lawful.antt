@@ -7,7 +7,7 @@ use Rattle.engine.specs.Runs.{MoveLaws}
 use Rattle.engine.specs.Gaining.{SumLaws}
 use Rattle.passes.specs.declared.model.Pass.{Pass}
 use Rattle.passes.specs.Rule.{nth}
-use Rattle.pruning.specs.declared.rounding.TheConstants.{MOST_PASSES}
+use Rattle.pruning.specs.declared.rounding.TheConstants.{WIDE_PASSES}
 use Rattle.pruning.specs.declared.rounding.NextPasses.{NextPasses}
 use Rattle.pruning.specs.Rounding.{next_pass, each_dish, free_after, next_then, allowed, go_on, NextFor, Small, rounded_night}
 use Rattle.pruning.specs.Suiting.{next_for, each_dish_at}
@@ -30,6 +30,7 @@ module _ (turns : List ℕ) (ps : List Pass) (i c : ℕ) (s : NextPasses) (d : �
   pub then_kept : c ≢ d + 1 → slice_index s.next d ≢ i → next_then turns ps i c s d ≡ slice_index s.next d
   then_kept other later = grind (arith, nat_tests)
 
+  -- so what holds in each of the three cases holds of it
   pub then_cases :
       (P : ℕ → Type 0) →
       (c ≡ d + 1 → P (next_pass turns ps d (i + 1) (free_after turns (nth ps i) d))) →
@@ -72,7 +73,7 @@ rounded_moves turns ps = record {
 }
 
 -- no pass is worth more than is said of any, and all together fit
-pub rounded_sums : (turns : List ℕ) (ps : List Pass) → Small ps → length ps ≤ MOST_PASSES → SumLaws (rounded_night turns ps)
+pub rounded_sums : (turns : List ℕ) (ps : List Pass) → Small ps → length ps ≤ WIDE_PASSES → SumLaws (rounded_night turns ps)
 rounded_sums turns ps small few = record {
   at_most = λ i c s t l fine h. let one = small i l in grind (arith, nat_tests);
   fits = omega arith;

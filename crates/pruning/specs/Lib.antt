@@ -3,4 +3,5 @@ pub mod Suiting
 pub mod Lawful
 pub mod Units
 pub mod Prices
+pub mod Sums
 pub mod Statements

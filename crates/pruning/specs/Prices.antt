@@ -37,7 +37,7 @@ entry tables d k = slice_index (slice_index_or tables d []) k
 abbrev pub Tables : (turns : List ℕ) → List Pass → (gains : List ℕ) → (tables : List (List ℕ)) → Type 0
 Tables turns ps gains tables = (d : ℕ) → d < length turns → RightFrom 0 (station_of_dish turns d) d ps gains (slice_index_or tables d [])
 
--- and this once prices are paid
+-- each dish has a table of what it alone can gain at most from each pass on, in n-th parts, once prices are paid
 abbrev pub TablesAt : ℕ → (turns : List ℕ) → List Pass → (prices : List ℕ) → (tables : List (List ℕ)) → Type 0
 TablesAt n turns ps prices tables = Tables turns ps (less_prices n ps prices) tables
 
@@ -54,19 +54,20 @@ from_next turns tables s = together (length turns) (λ d. entry tables d (slice_
 abbrev pub LeftFalls : List Pass → (left : List ℕ) → Type 0
 LeftFalls ps left = (k : ℕ) → k < length ps → slice_index left (k + 1) ≤ slice_index left k
 
--- and so does what a dish's table has
+-- what a dish's table has falls from each pass on to the next
 abbrev pub TablesFall : (turns : List ℕ) → List Pass → (tables : List (List ℕ)) → Type 0
 TablesFall turns ps tables = (d k : ℕ) → d < length turns → k < length ps → entry tables d (k + 1) ≤ entry tables d k
 
--- where a dish follows a pass, both fall by as much as it is worth or more, in n-th parts
+-- where a dish follows a pass, what is left and its table fall together by the pass's worth or more, in n-th parts
 abbrev pub FallsPay : ℕ → (turns : List ℕ) → List Pass → (left : List ℕ) → (tables : List (List ℕ)) → Type 0
 FallsPay n turns ps left tables =
     (d k : ℕ) → d < length turns → k < length ps → suits turns d 0 (nth ps k) ≡ true →
     n * (nth ps k).worth + slice_index left (k + 1) + entry tables d (next_pass turns ps d (k + 1) (free_after turns (nth ps k) d)) ≤ slice_index left k + entry tables d k
 
--- no entry is too large for some few to be added up
+-- no entry of what is left of passes is too large for some few to be added up
 abbrev pub LeftLow : List Pass → (left : List ℕ) → Type 0
 LeftLow ps left = (k : ℕ) → k ≤ length ps → slice_index left k < 2 ^ 50
 
+-- no entry of a dish's table is too large for some few to be added up
 abbrev pub TablesLow : (turns : List ℕ) → List Pass → (tables : List (List ℕ)) → Type 0
 TablesLow turns ps tables = (d k : ℕ) → d < length turns → k ≤ length ps → entry tables d k < 2 ^ 50

@@ -6,7 +6,7 @@ use Rattle.passes.specs.declared.model.Pass.{Pass}
 use Rattle.passes.specs.Follow.{may}
 use Rattle.passes.specs.Rule.{nth}
 use Rattle.capacity.specs.Order.{InTime}
-use Rattle.pruning.specs.declared.rounding.TheConstants.{MOST_DISHES, MOST_PASSES}
+use Rattle.pruning.specs.declared.rounding.TheConstants.{WIDE_DISHES, WIDE_PASSES}
 use Rattle.pruning.specs.declared.rounding.NextPasses.{NextPasses}
 
 -- dish d is there and may follow the pass, which begins in the second x or later
@@ -19,7 +19,7 @@ next_pass turns ps d k x = k + position_or_len (suits turns d x) (drop k ps)
 
 -- a number for each dish
 abbrev pub each_dish : (ℕ → ℕ) → NextPasses
-each_dish f = record { next = map f (range_with_len 0 MOST_DISHES) }
+each_dish f = record { next = map f (range_with_len 0 WIDE_DISHES) }
 
 -- the second from which dish d is free again once it has followed the pass
 abbrev pub free_after : (turns : List ℕ) → Pass → ℕ → ℕ
@@ -35,7 +35,7 @@ next_then turns ps i c s d =
 abbrev pub allowed : (turns : List ℕ) → (i c : ℕ) → NextPasses → Bool
 allowed turns i c s = c == 0 || (nat_le c (length turns) && slice_index s.next (c - 1) == i)
 
--- where it leads then
+-- where a decision on pass i leads, if it is allowed
 abbrev pub go_on : (turns : List ℕ) → List Pass → (i c : ℕ) → NextPasses → Option NextPasses
 go_on turns ps i c s = cond (allowed turns i c s) (Some (each_dish (next_then turns ps i c s))) None
 
@@ -47,12 +47,12 @@ pub record NextFor (turns : List ℕ) (ps : List Pass) (i d k : ℕ) : Type 0 wh
 
 -- the state is one of passes from pass i on
 pub record Upcoming (turns : List ℕ) (ps : List Pass) (i : ℕ) (s : NextPasses) : Type 0 where
-  pub one_each : length s.next ≡ MOST_DISHES
-  pub each : (d : ℕ) → d < MOST_DISHES → NextFor turns ps i d (slice_index s.next d)
+  pub one_each : length s.next ≡ WIDE_DISHES
+  pub each : (d : ℕ) → d < WIDE_DISHES → NextFor turns ps i d (slice_index s.next d)
 
 -- no dish's next pass comes later in the state a than in b
 abbrev pub NoLater : NextPasses → NextPasses → Type 0
-NoLater a b = (d : ℕ) → d < MOST_DISHES → slice_index a.next d ≤ slice_index b.next d
+NoLater a b = (d : ℕ) → d < WIDE_DISHES → slice_index a.next d ≤ slice_index b.next d
 
 -- no pass is worth more than 32 bits hold
 abbrev pub Small : List Pass → Type 0
@@ -60,8 +60,8 @@ Small ps = (i : ℕ) → i < length ps → (nth ps i).worth < 2 ^ 32
 
 -- so many dishes and passes as there can be, and passes in order of time
 pub record FitsNight (turns : List ℕ) (ps : List Pass) : Type 0 where
-  pub few_dishes : length turns ≤ MOST_DISHES
-  pub few_passes : length ps ≤ MOST_PASSES
+  pub few_dishes : length turns ≤ WIDE_DISHES
+  pub few_passes : length ps ≤ WIDE_PASSES
   pub in_time : InTime ps
 
 -- the night: a decision on each pass, in their order, by which the passes that are followed are gained

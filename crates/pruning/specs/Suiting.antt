@@ -8,7 +8,7 @@ use Rattle.std.proofs.lemmas.List.FromFn.{get_or-map-range_with_len}
 use Rattle.std.specs.Prelude.{slice_index}
 use Rattle.passes.specs.declared.model.Pass.{Pass}
 use Rattle.passes.specs.Rule.{no_pass, nth}
-use Rattle.pruning.specs.declared.rounding.TheConstants.{MOST_DISHES}
+use Rattle.pruning.specs.declared.rounding.TheConstants.{WIDE_DISHES}
 use Rattle.pruning.specs.Rounding.{suits, next_pass, each_dish, NextFor}
 
 -- none of the passes from pass k up to pass m suits dish d from the second x on
@@ -34,9 +34,11 @@ module _ (turns : List ℕ) (ps : List Pass) (d x k : ℕ) (start : k ≤ length
   pub next_within : next_pass turns ps d k x ≤ length ps
   next_within = omega (arith, prefix_len-le-length (λ p. not (suits turns d x p)) (drop k ps), length-drop k ps)
 
+  -- it suits the dish, unless it is behind all
   pub next_suits : next_pass turns ps d k x < length ps → suits turns d x (nth ps (next_pass turns ps d k x)) ≡ true
   next_suits l = rw (behind (position_or_len (suits turns d x) (drop k ps))) at (passes_at_first (suits turns d x) (drop k ps) no_pass (omega (arith, length-drop k ps)))
 
+  -- no pass before it does
   pub next_none : NoneSuited turns ps d x k (next_pass turns ps d k x)
   next_none j low high =
       let there : k + (j - k) ≡ j = omega arith in
@@ -51,5 +53,5 @@ module _ (turns : List ℕ) (ps : List Pass) (d x k : ℕ) (start : k ≤ length
   }
 
 -- the number for dish d
-pub each_dish_at : (f : ℕ → ℕ) (d : ℕ) → d < MOST_DISHES → slice_index (each_dish f).next d ≡ f d
-each_dish_at f d l = get_or-map-range_with_len f 0 MOST_DISHES d d 0 l (omega arith)
+pub each_dish_at : (f : ℕ → ℕ) (d : ℕ) → d < WIDE_DISHES → slice_index (each_dish f).next d ≡ f d
+each_dish_at f d l = get_or-map-range_with_len f 0 WIDE_DISHES d d 0 l (omega arith)

@@ -1,21 +1,23 @@
 // Prices at which the bound is low, found by an auction. Nothing rests on how low it is.
 ghost use Rattle.std.specs.Prelude.{◌≡◌, ℕ, ◌*◌, ◌^◌, ◌<◌, ◌≤◌, length, slice_index};
-ghost use Rattle.pruning.specs.declared.rounding.TheConstants.{MOST_PASSES};
+ghost use Rattle.pruning.specs.declared.rounding.TheConstants.{WIDE_PASSES};
 ghost use Rattle.pruning.specs.declared.prices.TheConstants.{SCALE};
 ghost use Rattle.engine.specs.Gaining.{Bound};
 ghost use Rattle.pruning.specs.Prices.{NoneAbove};
 ghost use Rattle.pruning.specs.Rounding.{rounded_night};
 
 use crate::prices::{Priced, full_price, less_prices};
-use crate::rounding::{MOST_PASSES, Rounded};
+use crate::rounding::{WIDE_PASSES, WideNight};
 use engine::{Decisions, Gains};
 use passes::Pass;
 
+// The most rounds that an auction has.
 const ROUNDS: usize = 100;
 
-// Prices move by so many parts of what passes are worth.
+// A whole step is so many parts; the first step is half of them.
 const PARTS: u64 = 1 << 16;
 
+// By how much prices move in the first round.
 const FIRST_STEP: u64 = PARTS / 2;
 
 // Once in so many rounds it is looked whether the best plan so far is worth as much as any.
@@ -26,15 +28,15 @@ const BETWEEN_BOUNDS: usize = 8;
 // can't fall or rise so far. Steps become shorter and shorter.
 #[derive(Drop)]
 pub struct Auction<'a> {
-    night: Rounded<'a>,
+    night: WideNight<'a>,
     // By how much each pass's price falls, in a whole step, for each dish that doesn't ask for it.
     // Kept: a place for each of the most passes, since memory is fixed.
-    strides: [u64; MOST_PASSES],
+    strides: [u64; WIDE_PASSES],
 }
 
 impl<'a> Auction<'a> {
     // The auction of a night.
-    pub fn new(night: Rounded<'a>) -> Auction<'a>
+    pub fn new(night: WideNight<'a>) -> Auction<'a>
         ensures same_turns { result.night.turns.now ≡ night.entry.turns.now }
         ensures same_passes { result.night.passes.now ≡ night.entry.passes.now }
     {
@@ -47,8 +49,8 @@ impl<'a> Auction<'a> {
 // Kept: places for the most passes, since memory is fixed.
 #[derive(Clone, Copy)]
 pub struct Bids {
-    pub prices: [u64; MOST_PASSES],
-    pub given: [u8; MOST_PASSES],
+    pub prices: [u64; WIDE_PASSES],
+    pub given: [u8; WIDE_PASSES],
 }
 
 impl Auction<'_> {
@@ -57,8 +59,8 @@ impl Auction<'_> {
     pub fn run(&self) -> Bids
         ensures { NoneAbove SCALE self.now.night.passes.now result.prices }
     {
-        let mut prices = [0; MOST_PASSES];
-        let mut given = [0; MOST_PASSES];
+        let mut prices = [0; WIDE_PASSES];
+        let mut given = [0; WIDE_PASSES];
         let mut step = FIRST_STEP;
         let mut most = 0;
         for number in 0..ROUNDS {
@@ -78,7 +80,7 @@ impl Auction<'_> {
     }
 
     // No plan is worth more than this.
-    fn bound(&self, prices: &[u64; MOST_PASSES]) -> u64
+    fn bound(&self, prices: &[u64; WIDE_PASSES]) -> u64
         ensures { let r = self.now.night in Bound (rounded_night r.turns.now r.passes.now) 0 (rounded_night r.turns.now r.passes.now).moves.start result }
     {
         if self.night.passes.is_empty() {
@@ -89,17 +91,17 @@ impl Auction<'_> {
     }
 
     // A round, in which each dish asks once. In each round another one asks first.
-    fn round(&self, number: usize, step: u64, prices: &[u64; MOST_PASSES]) -> Bids
+    fn round(&self, number: usize, step: u64, prices: &[u64; WIDE_PASSES]) -> Bids
         requires before { NoneAbove SCALE self.now.night.passes.now prices.now }
         ensures { NoneAbove SCALE self.now.night.passes.now result.prices }
     {
         let count = self.night.turns.len();
         let mut bids = Bids {
             prices: *prices,
-            given: [0; MOST_PASSES],
+            given: [0; WIDE_PASSES],
         };
-        for turn in 0..count {
-            let dish = (number % count + turn) % count;
+        for asking in 0..count {
+            let dish = (number % count + asking) % count;
             bids = self.after_asking(dish, step, &bids);
         }
         bids
@@ -115,7 +117,7 @@ impl Auction<'_> {
         let count = passes.len();
         let gains = less_prices(passes, &bids.prices[..count]);
         let table = self.night.table_of(dish, &gains[..count]);
-        let mut asked = [0; MOST_PASSES];
+        let mut asked = [0; WIDE_PASSES];
         let asked = &mut asked[..count];
         self.night
             .alone(dish)
@@ -150,7 +152,7 @@ impl Auction<'_> {
 
     // What the passes that are given are worth together. Only that it fits is promised, since nothing rests on it.
     fn worth_of(&self, bids: &Bids) -> u64
-        ensures { result ≤ 128 * 2 ^ 32 }
+        ensures { result ≤ WIDE_PASSES * 2 ^ 32 }
     {
         let mut worth = 0;
         for (i, pass) in self.night.passes.iter().enumerate() {
@@ -164,12 +166,12 @@ impl Auction<'_> {
 
 // What a pass is worth, and what passes are worth on average, half of each, for one of so many dishes.
 // Kept: by index, as the room is an array, of which the front is used.
-fn strides_of(passes: &[Pass], dishes: usize) -> [u64; MOST_PASSES]
-    requires few_passes { length passes.now ≤ MOST_PASSES }
+fn strides_of(passes: &[Pass], dishes: usize) -> [u64; WIDE_PASSES]
+    requires few_passes { length passes.now ≤ WIDE_PASSES }
     ensures { (i : ℕ) → i < length passes.now → slice_index result i < 2 ^ 50 }
 {
     let mean = mean_price(passes);
-    let mut strides = [0; MOST_PASSES];
+    let mut strides = [0; WIDE_PASSES];
     for (i, pass) in passes.iter().enumerate() {
         strides[i] = (full_price(pass) + mean) / 2 / (dishes as u64).max(1);
     }
@@ -178,7 +180,7 @@ fn strides_of(passes: &[Pass], dishes: usize) -> [u64; MOST_PASSES]
 
 // What a pass is worth on average, in the parts that prices are counted in.
 fn mean_price(passes: &[Pass]) -> u64
-    requires few_passes { length passes.now ≤ MOST_PASSES }
+    requires few_passes { length passes.now ≤ WIDE_PASSES }
     ensures { result < 2 ^ 50 }
 {
     let mut total = 0;

@@ -5,6 +5,7 @@ mod auction;
 mod laws;
 mod prices;
 mod rounding;
+mod tables;
 #[cfg(test)]
 mod tests;
 mod units;
@@ -12,4 +13,4 @@ mod units;
 pub use auction::{Auction, Bids};
 pub use laws::prices_bound_stands;
 pub use prices::Priced;
-pub use rounding::{MOST_DISHES, MOST_PASSES, NextPasses, Rounded};
+pub use rounding::{NextPasses, WIDE_DISHES, WIDE_PASSES, WideNight};

@@ -1,35 +1,33 @@
 // A night whose passes have prices, by which what is left to gain is bounded.
-ghost use Rattle.std.specs.Prelude.{◌≡◌, ℕ, ◌+◌, ◌*◌, ◌^◌, ◌<◌, ◌≤◌, length, take, drop, sum, slice_index};
+ghost use Rattle.std.specs.Prelude.{◌≡◌, ◌+◌, ◌*◌, ◌^◌, ◌<◌, ◌≤◌, length, take};
 ghost use Rattle.passes.specs.Rule.{nth};
-ghost use Rattle.capacity.specs.Alone.{RightFrom};
 ghost use Rattle.capacity.specs.Order.{InTime};
-ghost use Rattle.pruning.specs.declared.rounding.TheConstants.{MOST_DISHES, MOST_PASSES};
+ghost use Rattle.pruning.specs.declared.rounding.TheConstants.{WIDE_DISHES, WIDE_PASSES};
 ghost use Rattle.pruning.specs.declared.prices.TheConstants.{SCALE};
 ghost use Rattle.pruning.specs.Rounding.{Small, rounded_night};
+ghost use Rattle.pruning.specs.Sums.{AddsUp};
 ghost use Rattle.pruning.specs.Units.{WholeIn};
 ghost use Rattle.pruning.specs.Lawful.{rounded_moves, rounded_sums};
-ghost use Rattle.pruning.specs.Prices.{station_of_dish, NoneAbove, Moderate, Tables, less_prices, LeftFalls, TablesFall, FallsPay, LeftLow, TablesLow};
+ghost use Rattle.pruning.specs.Prices.{NoneAbove, Moderate, less_prices, LeftFalls, TablesFall, FallsPay, LeftLow, TablesLow};
 
-use crate::rounding::{MOST_DISHES, MOST_PASSES, NextPasses, Rounded};
+use crate::rounding::{NextPasses, WIDE_DISHES, WIDE_PASSES, WideNight};
+use crate::tables::ENTRIES;
 use crate::units::unit_of;
-use capacity::OneDish;
 use engine::{Decisions, Gains};
-use passes::{Pass, Station};
+use passes::Pass;
 
 // Prices are whole numbers of so many parts of what passes are worth.
 pub const SCALE: u64 = 1024;
-
-const ENTRIES: usize = MOST_PASSES + 1;
 
 // A night, and what its passes and dishes may still gain.
 // Kept: tables are as long as the most passes ask, since memory is fixed.
 #[derive(Drop)]
 pub struct Priced<'a> {
-    pub night: Rounded<'a>,
+    pub night: WideNight<'a>,
     // The prices of the passes from each on together.
     left: [u64; ENTRIES],
     // What each dish alone can gain from each pass on, once prices are paid.
-    tables: [[u64; ENTRIES]; MOST_DISHES],
+    tables: [[u64; ENTRIES]; WIDE_DISHES],
     // What every plan is worth is a multiple of this.
     unit: u64,
     ghost some_unit: { 0 < unit },
@@ -52,12 +50,12 @@ pub(crate) fn full_price(pass: &Pass) -> u64
 
 // Prices none of which is above what its pass is worth.
 // Kept: by index, as the rooms are arrays, of which the front is used.
-fn fair_prices(passes: &[Pass], prices: &[u64; MOST_PASSES]) -> [u64; MOST_PASSES]
-    requires few_passes { length passes.now ≤ MOST_PASSES }
+fn fair_prices(passes: &[Pass], prices: &[u64; WIDE_PASSES]) -> [u64; WIDE_PASSES]
+    requires few_passes { length passes.now ≤ WIDE_PASSES }
     ensures small { Small passes.now }
     ensures none_above { NoneAbove SCALE passes.now result }
 {
-    let mut fair = [0; MOST_PASSES];
+    let mut fair = [0; WIDE_PASSES];
     for (i, pass) in passes.iter().enumerate() {
         fair[i] = prices[i].min(full_price(pass));
     }
@@ -67,9 +65,9 @@ fn fair_prices(passes: &[Pass], prices: &[u64; MOST_PASSES]) -> [u64; MOST_PASSE
 // What the prices of the passes from each on come to, from the last to the first.
 // Kept: by index, since one entry is written and the one behind it is read.
 fn add_up(prices: &[u64]) -> [u64; ENTRIES]
-    requires few_prices { length prices.now ≤ MOST_PASSES }
+    requires few_prices { length prices.now ≤ WIDE_PASSES }
     requires moderate { Moderate prices.now }
-    ensures { (k : ℕ) → k ≤ length prices.now → slice_index result k ≡ sum (drop k prices.now) }
+    ensures { AddsUp (λ x. x) prices.now 0 result }
 {
     let mut left = [0; ENTRIES];
     for i in (0..prices.len()).rev() {
@@ -80,68 +78,23 @@ fn add_up(prices: &[u64]) -> [u64; ENTRIES]
 
 // What is gained by following each pass, once its price is paid.
 // Kept: by index, as in `fair_prices`.
-pub(crate) fn less_prices(passes: &[Pass], prices: &[u64]) -> [u64; MOST_PASSES]
-    requires few_passes { length passes.now ≤ MOST_PASSES }
+pub(crate) fn less_prices(passes: &[Pass], prices: &[u64]) -> [u64; WIDE_PASSES]
+    requires few_passes { length passes.now ≤ WIDE_PASSES }
     requires one_each { length prices.now ≡ length passes.now }
     requires none_above { NoneAbove SCALE passes.now prices.now }
     ensures less { take (length passes.now) result ≡ less_prices SCALE passes.now prices.now }
     ensures moderate { Moderate (take (length passes.now) result) }
 {
-    let mut gains = [0; MOST_PASSES];
+    let mut gains = [0; WIDE_PASSES];
     for (i, pass) in passes.iter().enumerate() {
         gains[i] = full_price(pass) - prices[i];
     }
     gains
 }
 
-impl Rounded<'_> {
-    // One dish alone.
-    pub(crate) fn alone(&self, dish: usize) -> OneDish<'_>
-        requires there { dish < length self.now.turns.now }
-        ensures station { result.station ≡ station_of_dish self.now.turns.now dish }
-        ensures same_dish { result.dish ≡ dish }
-        ensures same_passes { result.passes.now ≡ self.now.passes.now }
-    {
-        OneDish {
-            station: Station {
-                dishes: self.turns.len() as u8,
-                turn: self.turns[dish],
-            },
-            dish: dish as u8,
-            passes: self.passes,
-        }
-    }
-
-    // What a dish alone can gain from each pass on.
-    pub(crate) fn table_of(&self, dish: usize, gains: &[u64]) -> [u64; ENTRIES]
-        requires there { dish < length self.now.turns.now }
-        requires a_gain_each { length gains.now ≡ length self.now.passes.now }
-        requires sum_fits { sum gains.now < 2 ^ 64 }
-        ensures { let r = self.now in RightFrom 0 (station_of_dish r.turns.now dish) dish r.passes.now gains.now result }
-    {
-        let mut table = [0; ENTRIES];
-        self.alone(dish)
-            .fill_table(gains, &mut table[..self.passes.len() + 1]);
-        table
-    }
-
-    // The same of every dish.
-    fn tables_of(&self, gains: &[u64]) -> [[u64; ENTRIES]; MOST_DISHES]
-        requires a_gain_each { length gains.now ≡ length self.now.passes.now }
-        requires sum_fits { sum gains.now < 2 ^ 64 }
-        ensures { let r = self.now in Tables r.turns.now r.passes.now gains.now result }
-    {
-        let mut tables = [[0; ENTRIES]; MOST_DISHES];
-        for dish in 0..self.turns.len() {
-            tables[dish] = self.table_of(dish, gains);
-        }
-        tables
-    }
-}
-
 impl<'a> Priced<'a> {
     // The night at these prices; one that is above what its pass is worth counts for no more than that.
-    pub fn new(night: Rounded<'a>, prices: &[u64; MOST_PASSES]) -> Priced<'a>
+    pub fn new(night: WideNight<'a>, prices: &[u64; WIDE_PASSES]) -> Priced<'a>
         ensures same_turns { result.night.turns.now ≡ night.entry.turns.now }
         ensures same_passes { result.night.passes.now ≡ night.entry.passes.now }
     {
@@ -209,7 +162,7 @@ impl Gains for Priced<'_> {
         bound / SCALE / self.unit * self.unit
     }
 
-    // Each dish is free no later.
+    // Each dish's next pass comes no later.
     fn covers(&self, _stage: usize, seen: NextPasses, state: NextPasses) -> bool {
         seen.comes_no_later(state)
     }

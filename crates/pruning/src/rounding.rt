@@ -3,15 +3,16 @@ ghost use Rattle.std.specs.Prelude.{◌≡◌, ◌+◌, ◌<◌, ◌≤◌, ◌&
 ghost use Rattle.passes.specs.Follow.{may};
 ghost use Rattle.passes.specs.Rule.{nth};
 ghost use Rattle.capacity.specs.Order.{InTime, InTime-prop};
-ghost use Rattle.pruning.specs.declared.rounding.TheConstants.{MOST_DISHES, MOST_PASSES};
+ghost use Rattle.pruning.specs.declared.rounding.TheConstants.{WIDE_DISHES, WIDE_PASSES};
 ghost use Rattle.pruning.specs.Rounding.{suits, next_pass, allowed, next_then, go_on, NoLater, FitsNight, rounded_night};
 
 use passes::Pass;
 
-// More than a night that is read has, so that wider problems fit.
-pub const MOST_DISHES: usize = 8;
+// The most dishes of a wide night: more than a night that is read has, so that wider problems fit.
+pub const WIDE_DISHES: usize = 8;
 
-pub const MOST_PASSES: usize = 128;
+// The most passes of a wide night, more than of one that is read, too.
+pub const WIDE_PASSES: usize = 128;
 
 // An odd number with ones and zeros all over, 2^64 by the golden ratio.
 const MIXER: u64 = 0x9e37_79b9_7f4a_7c15;
@@ -20,13 +21,13 @@ const MIXER: u64 = 0x9e37_79b9_7f4a_7c15;
 // Kept: a place for each of the most dishes, however many there are, since memory is fixed.
 #[derive(Clone, Copy)]
 pub struct NextPasses {
-    next: [u8; MOST_DISHES],
+    next: [u8; WIDE_DISHES],
 }
 
 impl NextPasses {
     // The next pass of a dish.
     pub(crate) fn next_of(self, dish: usize) -> usize
-        requires there { dish < MOST_DISHES }
+        requires there { dish < WIDE_DISHES }
         ensures { result ≡ slice_index self.next dish }
     {
         self.next[dish] as usize
@@ -51,25 +52,25 @@ impl NextPasses {
     }
 }
 
-// Passes in order of time, and how long each dish takes to turn.
+// A night that may be wider than one that is read: passes in order of time, and how long each dish takes to turn.
 #[derive(Clone, Copy)]
-pub struct Rounded<'a> {
+pub struct WideNight<'a> {
     pub turns: &'a [u32],
     pub passes: &'a [Pass],
-    pub ghost few_dishes: { length turns.now ≤ MOST_DISHES },
-    pub ghost few_passes: { length passes.now ≤ MOST_PASSES },
+    pub ghost few_dishes: { length turns.now ≤ WIDE_DISHES },
+    pub ghost few_passes: { length passes.now ≤ WIDE_PASSES },
     pub ghost in_time: { InTime passes.now } by { InTime-prop passes.now },
 }
 
-impl<'a> Rounded<'a> {
+impl<'a> WideNight<'a> {
     // The night of these dishes and passes, unless there are too many of them or the passes aren't in order of time.
-    pub fn new(turns: &'a [u32], passes: &'a [Pass]) -> Option<Rounded<'a>>
+    pub fn new(turns: &'a [u32], passes: &'a [Pass]) -> Option<WideNight<'a>>
         ensures { MatchOption result (FitsNight turns.now passes.now → ⊥) (λ r. (r.turns.now ≡ turns.now) × (r.passes.now ≡ passes.now)) }
     {
-        if turns.len() > MOST_DISHES || passes.len() > MOST_PASSES || !are_in_time(passes) {
+        if turns.len() > WIDE_DISHES || passes.len() > WIDE_PASSES || !are_in_time(passes) {
             return None;
         }
-        Some(Rounded { turns, passes })
+        Some(WideNight { turns, passes })
     }
 }
 
@@ -87,7 +88,7 @@ fn are_in_time(passes: &[Pass]) -> bool
     true
 }
 
-impl Rounded<'_> {
+impl WideNight<'_> {
     // Whether the dish is there and may follow the pass, which begins in the second or later.
     fn suits(&self, dish: usize, second: u64, pass: &Pass) -> bool
         ensures { result ≡ suits self.now.turns.now dish second pass.now }
@@ -114,8 +115,8 @@ impl Rounded<'_> {
     pub(crate) fn start(&self) -> NextPasses
         ensures { let r = self.now in result ≡ (rounded_night r.turns.now r.passes.now).moves.start }
     {
-        let mut next = [0; MOST_DISHES];
-        for dish in 0..MOST_DISHES {
+        let mut next = [0; WIDE_DISHES];
+        for dish in 0..WIDE_DISHES {
             next[dish] = self.next_pass(dish, 0, 0);
         }
         NextPasses { next }
@@ -129,8 +130,8 @@ impl Rounded<'_> {
         if !self.is_allowed(stage, choice, state) {
             return None;
         }
-        let mut next = [0; MOST_DISHES];
-        for dish in 0..MOST_DISHES {
+        let mut next = [0; WIDE_DISHES];
+        for dish in 0..WIDE_DISHES {
             next[dish] = self.next_then(stage, choice, state, dish);
         }
         Some(NextPasses { next })
@@ -150,7 +151,7 @@ impl Rounded<'_> {
     // The next pass of a dish after a decision.
     fn next_then(&self, stage: usize, choice: u8, state: NextPasses, dish: usize) -> u8
         requires within { stage < length self.now.passes.now }
-        requires there { dish < MOST_DISHES }
+        requires there { dish < WIDE_DISHES }
         requires followed_by_one { choice ≤ length self.now.turns.now }
         ensures { let r = self.now in result ≡ next_then r.turns.now r.passes.now stage choice state dish }
     {

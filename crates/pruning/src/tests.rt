@@ -23,13 +23,13 @@ fn by_eights<const N: usize>() -> [Pass; N]
 
 // What is gained at most by dishes that take so long to turn, and how many states are visited for it.
 fn gained(turns: &[u32], passes: &[Pass]) -> Option<Gained> {
-    let night = Rounded::new(turns, passes)?;
+    let night = WideNight::new(turns, passes)?;
     let count = passes.len();
     let mut bids = Auction::new(night).run();
     let problem = Summed {
         gains: Priced::new(night, &bids.prices),
     };
-    let mut made = [0; MOST_PASSES];
+    let mut made = [0; WIDE_PASSES];
     Some(gain_most(
         &problem,
         &mut made[..count],

@@ -10,7 +10,7 @@ use Rattle.planner.specs.declared.planning.Done.{Done}
 use Rattle.planner.specs.declared.planning.Done.TheVariants.{Planned}
 use Rattle.planner.specs.Answers.{DoneSays}
 use Rattle.trials.specs.declared.kinds.Kind.{Kind}
-use Rattle.trials.specs.declared.kinds.TheConstants.{MOST_PASSES}
+use Rattle.trials.specs.declared.kinds.TheConstants.{TRIED_PASSES}
 use Rattle.trials.specs.declared.trying.Trial.{Trial}
 use Rattle.trials.specs.declared.trying.Trial.TheVariants.{AllFollowed, SomeLetGo, Mismatch}
 use Rattle.trials.specs.Kinds.{ListOf}
@@ -42,7 +42,7 @@ pub record TriedOf (kind : Kind) (trial : Trial) : Type 0 where
   pub turn : ℕ
   pub numbers : List ℕ
   pub taken : refused dishes turn numbers ≡ None
-  pub few : length numbers ≤ 4 * MOST_PASSES
+  pub few : length numbers ≤ 4 * TRIED_PASSES
   pub of_kind : ListOf kind dishes turn numbers
   pub tried : Tried dishes turn numbers trial
 

@@ -1,7 +1,7 @@
 // Random cases: a station, and a list of passes over it.
 ghost use Rattle.std.specs.Prelude.{◌≡◌, ◌*◌, ◌≤◌, None, IfOk, length};
 ghost use Rattle.passes.specs.Refusals.{refused};
-ghost use Rattle.trials.specs.declared.kinds.TheConstants.{MOST_PASSES};
+ghost use Rattle.trials.specs.declared.kinds.TheConstants.{TRIED_PASSES};
 ghost use Rattle.trials.specs.Kinds.{ListOf};
 
 use crate::kinds::Kind;
@@ -20,7 +20,7 @@ impl Case {
     // A random case of a kind.
     pub fn random<R: Rng>(alloc: Global, kind: Kind, rng: &mut R) -> Result<Case, AllocError>
         ensures taken { IfOk result (λ case. refused case.dishes case.turn case.numbers.items ≡ None) }
-        ensures few { IfOk result (λ case. length case.numbers.items ≤ 4 * MOST_PASSES) }
+        ensures few { IfOk result (λ case. length case.numbers.items ≤ 4 * TRIED_PASSES) }
         ensures kind { IfOk result (λ case. ListOf kind case.dishes case.turn case.numbers.items) }
     {
         let dishes = rng.random_range(1..=4u32);

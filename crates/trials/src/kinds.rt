@@ -1,7 +1,7 @@
 // Kinds of random cases.
 ghost use Rattle.std.specs.Prelude.{◌≡◌, ◌+◌, ◌<◌, ◌≤◌, true};
 ghost use Rattle.passes.specs.Checks.{in_range};
-ghost use Rattle.trials.specs.declared.kinds.TheConstants.{MOST_PASSES};
+ghost use Rattle.trials.specs.declared.kinds.TheConstants.{TRIED_PASSES};
 ghost use Rattle.trials.specs.Kinds.{CountOf, TurnOf, TimesOf, MarksOf, PassOf};
 
 use passes::Pass;
@@ -9,7 +9,7 @@ use rand::{Rng, RngExt};
 use std::fmt;
 
 // So few that all plans of a list can be tried.
-const MOST_PASSES: u32 = 6;
+const TRIED_PASSES: u32 = 6;
 
 // What the cases of a kind have in common.
 #[derive(Clone, Copy)]
@@ -48,12 +48,12 @@ impl fmt::Display for Kind {
 impl Kind {
     // How many passes a case has.
     pub fn count<R: Rng>(self, rng: &mut R) -> u32
-        ensures few { result ≤ MOST_PASSES }
+        ensures few { result ≤ TRIED_PASSES }
         ensures kind { CountOf self result }
     {
         match self {
             Kind::NoPasses => 0,
-            _ => rng.random_range(1..=MOST_PASSES),
+            _ => rng.random_range(1..=TRIED_PASSES),
         }
     }
 

@@ -1,4 +1,4 @@
-use Rattle.pruning.proofs.Tables.{prices_bound}
+use Rattle.pruning.proofs.TableBounds.{prices_bound}
 use Rattle.pruning.proofs.laws.prices_bound_stands.Goals as goal
 
 pub returns : goal.returns

@@ -1,4 +1,5 @@
-use Rattle.std.proofs.Common.{◌≡◌, inl, inr, ⊎_elim, arith}
+use Rattle.std.proofs.Common.{◌≡◌, inl, inr, ⊎_elim, arith, below_more}
+use Prim.Native.Nat.{◌∣◌}
 use Rattle.std.proofs.Math.Nat.{mod-one, mod-zero}
 use Rattle.std.proofs.lemmas.Bool.{cases_eq}
 use Rattle.std.proofs.lemmas.Nat.Gcd.{dvd_trans, dvd-zero, dvd_of_mod-eq-zero, mod-eq-zero_of_dvd}
@@ -12,7 +13,7 @@ pub loop-pass-preserved : goal.loop-pass-preserved
 loop-pass-preserved c =
     let i = c.loop-pass.pass-index in
     let both = c.greatest_common_divisor-unit.ensures in (
-      λ k l. ⊎_elim (λ same. rw same both.1) (λ other. dvd_trans c.greatest_common_divisor-unit.result both.0 (c.loop-pass.invariant.0 k (omega arith))) (cases_eq k i),
+      below_more (λ k. c.greatest_common_divisor-unit.result ∣ (nth c.args.passes.now k).worth) i (λ k l. dvd_trans c.greatest_common_divisor-unit.result both.0 (c.loop-pass.invariant.0 k l)) both.1,
       λ g h. both.2 g (c.loop-pass.invariant.1 g (λ k l. h k (omega arith))) (h i (omega arith)),
     )
 

@@ -1,5 +1,5 @@
 use Rattle.std.proofs.Common.{◌≡◌, length, take, arith, rules}
-use Rattle.pruning.proofs.Tables.{moderate_fits}
+use Rattle.pruning.proofs.TableBounds.{moderate_fits}
 use Rattle.pruning.proofs.auction.Auction.after_asking.Goals as goal
 
 pub table_of-table-requires-clause-sum_fits : goal.table_of-table-requires-clause-sum_fits

@@ -2,7 +2,7 @@ use Rattle.std.proofs.Common.{◌≡◌, ℕ, ◌≤◌, List, length, take, ari
 use Rattle.std.proofs.lemmas.List.{get_or-take, length-take-le}
 use Rattle.passes.specs.declared.model.Pass.{Pass}
 use Rattle.pruning.specs.Prices.{Fair, NoneAbove}
-use Rattle.pruning.proofs.Tables.{moderate_fits, left_low, tables_low, left_falls, tables_fall, falls_pay}
+use Rattle.pruning.proofs.TableBounds.{moderate_fits, left_low, tables_low, left_falls, tables_fall, falls_pay}
 use Rattle.pruning.proofs.prices.Priced.new.Goals as goal
 
 -- the front of an array of prices

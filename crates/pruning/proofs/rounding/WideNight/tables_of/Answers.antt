@@ -3,7 +3,7 @@ use Rattle.std.proofs.lemmas.Bool.{cases_eq}
 use Rattle.std.proofs.lemmas.List.{get_or-set_other, get_or-set_same}
 use Rattle.capacity.specs.Alone.{RightFrom}
 use Rattle.pruning.specs.Prices.{station_of_dish}
-use Rattle.pruning.proofs.rounding.Rounded.tables_of.Goals as goal
+use Rattle.pruning.proofs.rounding.WideNight.tables_of.Goals as goal
 
 pub loop-dish-preserved : goal.loop-dish-preserved
 loop-dish-preserved c =

@@ -1,6 +1,6 @@
 use Rattle.std.proofs.Common.{sym, arith, rules}
 use Rattle.pruning.specs.Suiting.{next_is}
-use Rattle.pruning.proofs.rounding.Rounded.next_pass.Goals as goal
+use Rattle.pruning.proofs.rounding.WideNight.next_pass.Goals as goal
 
 pub returns-then-suits : goal.returns-then-suits
 returns-then-suits c =

@@ -1,7 +1,7 @@
 use Rattle.std.proofs.Common.{◌≡◌, true, Some, ap, arith, rules}
 use Rattle.std.proofs.lemmas.List.FromFn.{fill_by_all}
 use Rattle.pruning.specs.Rounding.{allowed, next_then}
-use Rattle.pruning.proofs.rounding.Rounded.step.Goals as goal
+use Rattle.pruning.proofs.rounding.WideNight.step.Goals as goal
 
 pub returns : goal.returns
 returns c =

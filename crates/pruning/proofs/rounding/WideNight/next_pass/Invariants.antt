@@ -1,5 +1,5 @@
 use Rattle.pruning.specs.Suiting.{NoneSuited}
-use Rattle.pruning.proofs.rounding.Rounded.next_pass.Given as goal
+use Rattle.pruning.proofs.rounding.WideNight.next_pass.Given as goal
 
 -- no pass looked at so far suits the dish
 abbrev pub invariant-loop-next : goal.invariant-loop-next

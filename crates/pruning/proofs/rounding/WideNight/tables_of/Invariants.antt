@@ -1,7 +1,7 @@
 use Rattle.std.proofs.Common.{◌≡◌, ℕ, ◌<◌, [], length, get_or}
 use Rattle.capacity.specs.Alone.{RightFrom}
 use Rattle.pruning.specs.Prices.{station_of_dish}
-use Rattle.pruning.proofs.rounding.Rounded.tables_of.Given as goal
+use Rattle.pruning.proofs.rounding.WideNight.tables_of.Given as goal
 
 -- the dishes looked at so far have their table
 abbrev pub invariant-loop-dish : goal.invariant-loop-dish

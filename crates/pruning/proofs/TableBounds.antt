@@ -13,10 +13,11 @@ use Rattle.capacity.specs.Alone.{GainsMost, RightFrom}
 use Rattle.capacity.specs.Order.{InTime, FirstFrom}
 use Rattle.capacity.proofs.Chains.{gain_le_sum}
 use Rattle.capacity.proofs.Tables.{one_most, entry_falls, entry_able}
-use Rattle.pruning.specs.declared.rounding.TheConstants.{MOST_PASSES}
+use Rattle.pruning.specs.declared.rounding.TheConstants.{WIDE_PASSES}
 use Rattle.pruning.specs.Prices.{station_of_dish, Moderate, Fair, less_prices, entry, TablesAt, LeftFalls, TablesFall, FallsPay, LeftLow, TablesLow}
 use Rattle.pruning.specs.Rounding.{suits, next_pass, free_after, Small}
 use Rattle.pruning.specs.Suiting.{next_within, next_suits}
+use Rattle.pruning.specs.Sums.{AddsUp}
 use Rattle.pruning.specs.Statements.{PricesBound}
 use Rattle.pruning.proofs.Bounding.{Bounds, falls_to, bounded}
 
@@ -79,7 +80,7 @@ module _ (turns : List ℕ) (ps : List Pass) (n : ℕ) (prices : List ℕ) (time
       left_at k l = sum_by-drop_more (λ x. x) prices k 0 (omega (arith, fair.one_each))
 
 -- some few numbers that are not above what prices can be, together
-pub moderate_fits : (xs : List ℕ) → length xs ≤ MOST_PASSES → Moderate xs → sum xs < 2 ^ 50
+pub moderate_fits : (xs : List ℕ) → length xs ≤ WIDE_PASSES → Moderate xs → sum xs < 2 ^ 50
 moderate_fits xs few each = omega (arith, sum_by-le (λ x. x) (2 ^ 42) xs (All-from_get_or (λ x. x ≤ 2 ^ 42) xs 0 (λ i l. omega (arith, each i l))))
 
 -- prices that are not above worths are moderate, and so is all that is gained together
@@ -93,26 +94,26 @@ module _ (ps : List Pass) (small : Small ps) where
       omega (arith, gain_at ps 1024 prices i within, small i within)
 
   -- so no entry is too large
-  pub tables_low : (turns : List ℕ) (prices : List ℕ) (tables : List (List ℕ)) → length ps ≤ MOST_PASSES → TablesAt 1024 turns ps prices tables → TablesLow turns ps tables
+  pub tables_low : (turns : List ℕ) (prices : List ℕ) (tables : List (List ℕ)) → length ps ≤ WIDE_PASSES → TablesAt 1024 turns ps prices tables → TablesLow turns ps tables
   tables_low turns prices tables few right d k l h =
       let gains = less_prices 1024 ps prices in
       let most = right d l k (omega arith) h in
       omega (arith, most.2, gain_le_sum d (drop k gains) most.0, sum_by-take-drop (λ x. x) gains k, moderate_fits gains (omega (arith, one_gain_each ps 1024 prices)) (gains_moderate prices))
 
-  pub left_low : (prices left : List ℕ) → length ps ≤ MOST_PASSES → Fair 1024 ps prices → ((k : ℕ) → k ≤ length prices → slice_index left k ≡ sum (drop k prices)) → LeftLow ps left
+  pub left_low : (prices left : List ℕ) → length ps ≤ WIDE_PASSES → Fair 1024 ps prices → AddsUp (λ x. x) prices 0 left → LeftLow ps left
   left_low prices left few fair sums k h =
-      omega (arith, sums k (omega (arith, fair.one_each)), sum_by-take-drop (λ x. x) prices k, moderate_fits prices (omega (arith, fair.one_each)) (fair_moderate prices fair))
+      omega (arith, sums k (omega arith) (omega (arith, fair.one_each)), sum_by-take-drop (λ x. x) prices k, moderate_fits prices (omega (arith, fair.one_each)) (fair_moderate prices fair))
 
 -- what a night at prices holds, from how it was made
-module _ (turns : List ℕ) (ps : List Pass) (n : ℕ) (prices : List ℕ) (time : InTime ps) (fair : Fair n ps prices) (left : List ℕ) (sums : (k : ℕ) → k ≤ length prices → slice_index left k ≡ sum (drop k prices)) (tables : List (List ℕ)) (right : TablesAt n turns ps prices tables) where
+module _ (turns : List ℕ) (ps : List Pass) (n : ℕ) (prices : List ℕ) (time : InTime ps) (fair : Fair n ps prices) (left : List ℕ) (sums : AddsUp (λ x. x) prices 0 left) (tables : List (List ℕ)) (right : TablesAt n turns ps prices tables) where
   bounds : Bounds turns ps n (λ k. sum (drop k prices)) (entry tables)
   bounds = table_bounds turns ps n prices time fair tables right
 
   pub left_falls : LeftFalls ps left
-  left_falls k l = omega (arith, bounds.left_falls k l, sums k (omega (arith, fair.one_each)), sums (k + 1) (omega (arith, fair.one_each)))
+  left_falls k l = omega (arith, bounds.left_falls k l, sums k (omega arith) (omega (arith, fair.one_each)), sums (k + 1) (omega arith) (omega (arith, fair.one_each)))
 
   pub falls_pay : FallsPay n turns ps left tables
-  falls_pay d k l h suited = omega (arith, bounds.takes d k l h suited, sums k (omega (arith, fair.one_each)), sums (k + 1) (omega (arith, fair.one_each)))
+  falls_pay d k l h suited = omega (arith, bounds.takes d k l h suited, sums k (omega arith) (omega (arith, fair.one_each)), sums (k + 1) (omega arith) (omega (arith, fair.one_each)))
 
   pub tables_fall : TablesFall turns ps tables
   tables_fall d k l h = bounds.falls d k l h

@@ -1,6 +1,6 @@
 use Rattle.std.proofs.Common.{◌≡◌, ℕ, ◌<◌, length, get_or}
 use Rattle.pruning.specs.Rounding.{next_then}
-use Rattle.pruning.proofs.rounding.Rounded.step.Given as goal
+use Rattle.pruning.proofs.rounding.WideNight.step.Given as goal
 
 -- the dishes looked at so far have their next pass
 abbrev pub invariant-loop-dish : goal.invariant-loop-dish

@@ -1,6 +1,6 @@
 use Rattle.std.proofs.Common.{◌≡◌, ℕ, ◌<◌, length, get_or}
 use Rattle.pruning.specs.Rounding.{next_pass}
-use Rattle.pruning.proofs.rounding.Rounded.start.Given as goal
+use Rattle.pruning.proofs.rounding.WideNight.start.Given as goal
 
 -- the dishes looked at so far have their first pass
 abbrev pub invariant-loop-dish : goal.invariant-loop-dish
