@@ -1,5 +1,5 @@
 -- Passes in order of time. Assumes nothing: these are definitions, and of one it is proved that any two proofs of it are the same.
-use Rattle.std.specs.Prelude.{ℕ, ◌<◌, ◌≤◌, List, length}
+use Rattle.std.specs.Prelude.{◌≡◌, ℕ, ◌+◌, ◌<◌, ◌≤◌, List, length, slice_index}
 use Rattle.passes.specs.declared.model.Pass.{Pass}
 use Rattle.passes.specs.Rule.{nth}
 use Rattle.std.proofs.Props.{props}
@@ -25,3 +25,8 @@ pub record FirstFrom (ps : List Pass) (x r : ℕ) : Type 0 where
   pub within : r ≤ length ps
   pub before : (k : ℕ) → k < r → (nth ps k).from < x
   pub after : (k : ℕ) → r ≤ k → k < length ps → x ≤ (nth ps k).from
+
+-- entry i of a list is the first pass that a dish that takes t seconds to turn can follow after pass i: the first that begins late enough
+pub record Successors (t : ℕ) (ps : List Pass) (after : List ℕ) : Type 0 where
+  pub one_each : length after ≡ length ps
+  pub each : (i : ℕ) → i < length ps → FirstFrom ps ((nth ps i).to + t) (slice_index after i)

@@ -7,7 +7,7 @@ ghost use Rattle.passes.specs.Nights.{passes_of, station_of};
 ghost use Rattle.passes.specs.Numbers.{passes_in};
 ghost use Rattle.passes.specs.Refusals.{refused_with_room};
 ghost use Rattle.capacity.specs.Alone.{BestAlone, RightFrom, worths, BestPlanWorth};
-ghost use Rattle.capacity.specs.Order.{InTime, InTime-prop, FirstFrom};
+ghost use Rattle.capacity.specs.Order.{InTime, InTime-prop, FirstFrom, Successors};
 
 use passes::{MAX_PASSES, Night, Pass, Refusal, Station};
 
@@ -42,8 +42,11 @@ fn plan_alone(night: &Night, table: &mut [u64; MAX_ENTRIES], room: &mut [u8]) ->
         dish: 0,
         passes,
     };
-    alone.fill_table(&worths[..count], table);
-    alone.follow_table(table, room);
+    let mut after = [0; MAX_PASSES];
+    let after = &mut after[..count];
+    alone.find_successors(after);
+    alone.fill_table(after, &worths[..count], table);
+    alone.follow_table(after, table, room);
     table[0]
 }
 
@@ -71,11 +74,24 @@ pub struct OneDish<'a> {
 }
 
 impl OneDish<'_> {
+    // Writes for each pass the first that the dish can follow after it, by its place, or the number of passes if there is none. Whoever fills many tables
+    // finds these but once.
+    // Kept: by index. With `after.iter_mut().zip(self.passes)` the proof knows nothing of what is written after the loop.
+    pub fn find_successors(&self, after: &mut [usize])
+        requires one_each { length after.old ≡ length self.now.passes.now }
+        ensures { let one = self.now in Successors one.station.turn one.passes.now after.new }
+    {
+        for (i, pass) in self.passes.iter().enumerate() {
+            after[i] = self.next_after(*pass);
+        }
+    }
+
     // Fills a table, from its end, with the most that the dish can gain from each pass on: it leaves the pass out, or follows it and goes on
-    // with the first that begins late enough after it.
+    // with the first that it can follow after it.
     // Kept: the gains are a list beside the passes, which is no less plain, since pruning looks at one list of passes
     // with many lists of gains; and by index, since one entry of the table is written and two behind it are read.
-    pub fn fill_table(&self, gains: &[u64], table: &mut [u64])
+    pub fn fill_table(&self, after: &[usize], gains: &[u64], table: &mut [u64])
+        requires successors { Successors self.now.station.turn self.now.passes.now after.now }
         requires a_gain_each { length gains.now ≡ length self.now.passes.now }
         requires sum_fits { sum gains.now < 2 ^ 64 }
         requires one_more { length table.old ≡ length self.now.passes.now + 1 }
@@ -85,8 +101,7 @@ impl OneDish<'_> {
         for (i, pass) in self.passes.iter().enumerate().rev() {
             let left_out = table[i + 1];
             table[i] = if self.may_follow(*pass) {
-                let next = self.next_after(*pass);
-                left_out.max(gains[i] + table[next])
+                left_out.max(gains[i] + table[after[i]])
             } else {
                 left_out
             };
@@ -96,17 +111,18 @@ impl OneDish<'_> {
     // Leaves a best plan of the dish alone in the room, for whatever gains the table has the most of: it follows each pass that it can gain by.
     // Kept: by index, since two neighbours of the table are read and the place is compared with that of the next pass; and the room stands beside
     // the passes, to be written.
-    pub fn follow_table(&self, table: &[u64], room: &mut [u8])
+    pub fn follow_table(&self, after: &[usize], table: &[u64], room: &mut [u8])
+        requires successors { Successors self.now.station.turn self.now.passes.now after.now }
         requires one_more { length table.now ≡ length self.now.passes.now + 1 }
         requires one_each { length room.old ≡ length self.now.passes.now }
         requires a_byte { self.now.dish < 255 }
         ensures { let one = self.now in (gs : List ℕ) → length gs ≡ length one.passes.now → RightFrom 0 one.station one.dish one.passes.now gs table.now → BestAlone one.station one.dish one.passes.now gs room.new }
     {
         let mut next = 0;
-        for (i, pass) in self.passes.iter().enumerate() {
+        for i in 0..self.passes.len() {
             if next <= i && table[i] > table[i + 1] {
                 room[i] = self.dish + 1;
-                next = self.next_after(*pass);
+                next = after[i];
             } else {
                 room[i] = 0;
             }

@@ -17,6 +17,7 @@ fill_table-requires c =
       a_gain_each = worth_each _ _ c.worths_of-worths.ensures;
       sum_fits = rw (c.worths_of-worths.ensures, c.passes-passes.ensures) (worths_fit _ _ c.args.night.now.ok);
       one_more = length-take-le _ c.args.table.now (omega arith);
+      successors = c.find_successors.ensures;
     }
 
 pub returns : goal.returns

@@ -1,8 +1,7 @@
-use Rattle.std.proofs.Common.{◌≡◌, ◌+◌, true, false, [], ◌∷◌, length, set, drop, sym, ◌∙◌, subst, arith, rules, length-set}
+use Rattle.std.proofs.Common.{◌≡◌, ◌+◌, true, false, [], ◌∷◌, length, set, drop, get_or, sym, ◌∙◌, subst, arith, rules, length-set}
 use Rattle.std.proofs.lemmas.List.{append-nil}
 use Rattle.passes.specs.Rule.{no_pass, nth}
 use Rattle.capacity.specs.Alone.{GainsMost, RightFrom}
-use Rattle.capacity.specs.Order.{FirstFrom}
 use Rattle.capacity.proofs.Chains.{able, gain_le_sum}
 use Rattle.capacity.proofs.Tables.{entry_past, right_more, comes_later, entry_unable, entry_able, sum_later, last_left}
 use Rattle.capacity.proofs.alone.OneDish.fill_table.Goals as goal
@@ -24,11 +23,11 @@ pub overflow_add-gains : goal.overflow_add-gains
 overflow_add-gains c =
     let dish = c.args.self.now in
     let i = c.in-Some.i in
-    let next = c.next_after-next.result in
+    let next = get_or c.args.after.now i 0 in
     let steps = c.in-Some.ensures.steps in
     let before = c.loop-i.invariant in
     let turn = last_left dish.passes.now _ _ before.3.0 c.in-Some.pass.now i before.3.1 steps.1.0 (omega arith) in
-    let first = subst (λ p. FirstFrom dish.passes.now (p.to + dish.station.turn) next) (sym (turn.3 no_pass)) c.next_after-next.ensures in
+    let first = c.requires.successors.each i turn.2 in
     let later = comes_later dish.station dish.passes.now dish.in_time i next turn.2 first in
     let entry = before.4 next (omega arith) first.within in
     let most = gain_le_sum dish.dish (drop next c.args.gains.now) entry.0 in
@@ -48,10 +47,11 @@ loop-i-preserved c =
     let rest = before.4 (i + 1) (omega arith) (omega arith) in
     let entry : GainsMost dish.station dish.dish (drop i dish.passes.now) (drop i gains) c.if-may_follow.table = elim c.if-may_follow.branch [
       | then-may_follow w ↦
-          let first = subst (λ p. FirstFrom dish.passes.now (p.to + dish.station.turn) w.next_after-next.result) (sym pass) w.next_after-next.ensures in
-          let later = comes_later dish.station dish.passes.now dish.in_time i w.next_after-next.result turn.2 first in
+          let next = get_or c.args.after.now i 0 in
+          let first = c.requires.successors.each i turn.2 in
+          let later = comes_later dish.station dish.passes.now dish.in_time i next turn.2 first in
           let can : able dish.station dish.dish (nth dish.passes.now i) ≡ true = rw pass (sym c.may_follow.ensures ∙ w.if-may_follow.true) in
-          rw (w.table-is, w.max.ensures) (entry_able dish.station dish.passes.now dish.in_time i w.next_after-next.result turn.2 first dish.dish gains long can _ _ rest (before.4 w.next_after-next.result (omega arith) first.within))
+          rw (w.table-is, w.max.ensures) (entry_able dish.station dish.passes.now dish.in_time i next turn.2 first dish.dish gains long can _ _ rest (before.4 next (omega arith) first.within))
       | else-may_follow w ↦
           let cannot : able dish.station dish.dish (nth dish.passes.now i) ≡ false = rw pass (sym c.may_follow.ensures ∙ w.if-may_follow.false) in
           rw w.table-is (entry_unable dish.station dish.dish dish.passes.now gains long i turn.2 cannot _ rest)

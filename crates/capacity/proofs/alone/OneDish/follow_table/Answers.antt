@@ -1,4 +1,4 @@
-use Rattle.std.proofs.Common.{◌≡◌, length, add-one, arith}
+use Rattle.std.proofs.Common.{◌≡◌, length, get_or, add-one, arith}
 use Rattle.capacity.proofs.Followed.{led_start, led_held, led_skip, led_follow, led_best}
 use Rattle.capacity.proofs.alone.OneDish.follow_table.Goals as goal
 use Rattle.capacity.proofs.alone.OneDish.follow_table.Goals.{then-next-i+then-table-i, else-next-i, else-next-i-via-then-next-i+else-table-i, else-next-i-via-else-next-i}
@@ -16,9 +16,9 @@ loop-i-preserved c =
     let within = c.loop-i-test.true in
     elim c.if-next-i.branch [
       | then-next-i+then-table-i w ↦
-          let first = w.next_after-next.ensures in
+          let first = c.requires.successors.each l.i within in
           rw (w.room-is, w.next-is, add-one a.dish)
-          (first.within, λ gs long right. led_follow a.station a.dish a.passes.now gs table a.in_time long right l.i within l.next w.next_after-next.result l.room first (omega arith) w.if-next-i.true w.if-table-i.true (l.invariant.1 gs long right))
+          (first.within, λ gs long right. led_follow a.station a.dish a.passes.now gs table a.in_time long right l.i within l.next (get_or c.args.after.now l.i 0) l.room first (omega arith) w.if-next-i.true w.if-table-i.true (l.invariant.1 gs long right))
       | else-next-i w ↦
           rw (w.room-is, w.next-is) (
             l.invariant.0,
