@@ -30,3 +30,17 @@ pub record FirstFrom (ps : List Pass) (x r : ℕ) : Type 0 where
 pub record Successors (t : ℕ) (ps : List Pass) (after : List ℕ) : Type 0 where
   pub one_each : length after ≡ length ps
   pub each : (i : ℕ) → i < length ps → FirstFrom ps ((nth ps i).to + t) (slice_index after i)
+
+-- any two proofs that a pass is the first from a second on are the same
+pub FirstFrom-prop : (ps : List Pass) (x r : ℕ) → IsProp (FirstFrom ps x r)
+FirstFrom-prop ps x r a b =
+    let within : IsProp (r ≤ length ps) = Prim.hlevel props in
+    let before : IsProp ((k : ℕ) → k < r → (nth ps k).from < x) = Prim.hlevel props in
+    let after : IsProp ((k : ℕ) → r ≤ k → k < length ps → x ≤ (nth ps k).from) = Prim.hlevel props in
+    λ t. record { within = within a.within b.within t; before = before a.before b.before t; after = after a.after b.after t }
+
+-- any two proofs that a list has each pass's successor are the same
+pub Successors-prop : (t : ℕ) (ps : List Pass) (after : List ℕ) → IsProp (Successors t ps after)
+Successors-prop t ps after a b =
+    let one_each : IsProp (length after ≡ length ps) = Prim.hlevel props in
+    λ u. record { one_each = one_each a.one_each b.one_each u; each = λ i l. FirstFrom-prop ps ((nth ps i).to + t) (slice_index after i) (a.each i l) (b.each i l) u }

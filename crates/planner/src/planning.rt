@@ -11,7 +11,7 @@ ghost use Rattle.planner.specs.Nights.{night as night_of};
 
 use engine::{Summed, gain_most};
 use passes::{MAX_DISHES, Night, Refusal};
-use pruning::{Auction, WIDE_PASSES, Priced, WideNight};
+use pruning::{Priced, WIDE_PASSES, WideNight, bids_for};
 
 // How many states the search remembers.
 const PLACES: usize = 4096;
@@ -109,7 +109,7 @@ fn plan_each(night: WideNight, room: &mut [u8]) -> Counted
     requires one_each { length room.old ≡ length night.passes.now }
     ensures { BestGain (night_of night.entry.turns.now night.entry.passes.now) room.new result.worth }
 {
-    let bids = Auction::new(night).run();
+    let bids = bids_for(night);
     let problem = Summed {
         gains: Priced::new(night, &bids.prices),
     };

@@ -1,5 +1,6 @@
 pub mod Rounding
 pub mod Suiting
+pub mod Following
 pub mod Lawful
 pub mod Units
 pub mod Prices

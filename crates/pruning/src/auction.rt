@@ -6,13 +6,14 @@ ghost use Rattle.engine.specs.Gaining.{Bound};
 ghost use Rattle.pruning.specs.Prices.{NoneAbove};
 ghost use Rattle.pruning.specs.Rounding.{rounded_night};
 
+use crate::prepared::{Prepared, all_successors};
 use crate::prices::{Priced, full_price, less_prices};
 use crate::rounding::{WIDE_PASSES, WideNight};
 use engine::{Decisions, Gains};
 use passes::Pass;
 
 // The most rounds that an auction has.
-const ROUNDS: usize = 100;
+const ROUNDS: usize = 48;
 
 // A whole step is so many parts; the first step is half of them.
 const PARTS: u64 = 1 << 16;
@@ -23,26 +24,13 @@ const FIRST_STEP: u64 = PARTS / 2;
 // Once in so many rounds it is looked whether the best plan so far is worth as much as any.
 const BETWEEN_BOUNDS: usize = 8;
 
-// At first nothing has a price. In each round, each dish in turn asks for the passes by which it alone gains the most at the prices. Then the price of
-// each pass that it asks for rises, and that of each other pass falls, so that a pass for which one dish asks in a round comes back to its price, unless that
-// can't fall or rise so far. Steps become shorter and shorter.
+// An auction of a night's passes, under way.
 #[derive(Drop)]
-pub struct Auction<'a> {
-    night: WideNight<'a>,
+struct Auction<'n, 'a> {
+    prepared: Prepared<'n, 'a>,
     // By how much each pass's price falls, in a whole step, for each dish that doesn't ask for it.
     // Kept: a place for each of the most passes, since memory is fixed.
     strides: [u64; WIDE_PASSES],
-}
-
-impl<'a> Auction<'a> {
-    // The auction of a night.
-    pub fn new(night: WideNight<'a>) -> Auction<'a>
-        ensures same_turns { result.night.turns.now ≡ night.entry.turns.now }
-        ensures same_passes { result.night.passes.now ≡ night.entry.passes.now }
-    {
-        let strides = strides_of(night.passes, night.turns.len());
-        Auction { night, strides }
-    }
 }
 
 // Where a round stands, or the auction ends: prices, and to which dish each pass is given, the first that asked for it, by the numbers of plans.
@@ -53,11 +41,25 @@ pub struct Bids {
     pub given: [u8; WIDE_PASSES],
 }
 
-impl Auction<'_> {
+// Holds an auction. At first nothing has a price. In each round, each dish in turn asks for the passes by which it alone gains the most at the prices. Then the
+// price of each pass that it asks for rises, and that of each other pass falls, so that a pass for which one dish asks in a round comes back to its price, unless
+// that can't fall or rise so far. Steps become shorter and shorter.
+pub fn bids_for(night: WideNight) -> Bids
+    ensures { NoneAbove SCALE night.entry.passes.now result.prices }
+{
+    let after = all_successors(night);
+    let auction = Auction {
+        prepared: Prepared::new(night, &after),
+        strides: strides_of(night.passes, night.turns.len()),
+    };
+    auction.run()
+}
+
+impl Auction<'_, '_> {
     // The prices after the last round, and the dishes to which passes were given in the round in which those passes were worth the most. Nothing is
     // promised of these.
-    pub fn run(&self) -> Bids
-        ensures { NoneAbove SCALE self.now.night.passes.now result.prices }
+    fn run(&self) -> Bids
+        ensures { NoneAbove SCALE self.now.prepared.night.passes.now result.prices }
     {
         let mut prices = [0; WIDE_PASSES];
         let mut given = [0; WIDE_PASSES];
@@ -66,7 +68,7 @@ impl Auction<'_> {
         for number in 0..ROUNDS {
             let bids = self.round(number, step, &prices);
             prices = bids.prices;
-            step = step * 59 / 64;
+            step = step * 54 / 64;
             let worth = self.worth_of(&bids);
             if worth > most {
                 most = worth;
@@ -81,21 +83,21 @@ impl Auction<'_> {
 
     // No plan is worth more than this.
     fn bound(&self, prices: &[u64; WIDE_PASSES]) -> u64
-        ensures { let r = self.now.night in Bound (rounded_night r.turns.now r.passes.now) 0 (rounded_night r.turns.now r.passes.now).moves.start result }
+        ensures { let r = self.now.prepared.night in Bound (rounded_night r.turns.now r.passes.now) 0 (rounded_night r.turns.now r.passes.now).moves.start result }
     {
-        if self.night.passes.is_empty() {
+        if self.prepared.night.passes.is_empty() {
             return 0;
         }
-        let priced = Priced::new(self.night, prices);
+        let priced = Priced::prepared(self.prepared, prices);
         priced.bound(0, priced.start())
     }
 
     // A round, in which each dish asks once. In each round another one asks first.
     fn round(&self, number: usize, step: u64, prices: &[u64; WIDE_PASSES]) -> Bids
-        requires before { NoneAbove SCALE self.now.night.passes.now prices.now }
-        ensures { NoneAbove SCALE self.now.night.passes.now result.prices }
+        requires before { NoneAbove SCALE self.now.prepared.night.passes.now prices.now }
+        ensures { NoneAbove SCALE self.now.prepared.night.passes.now result.prices }
     {
-        let count = self.night.turns.len();
+        let count = self.prepared.night.turns.len();
         let mut bids = Bids {
             prices: *prices,
             given: [0; WIDE_PASSES],
@@ -109,33 +111,35 @@ impl Auction<'_> {
 
     // The bids after a dish has asked for passes.
     fn after_asking(&self, dish: usize, step: u64, bids: &Bids) -> Bids
-        requires there { dish < length self.now.night.turns.now }
-        requires before { NoneAbove SCALE self.now.night.passes.now bids.now.prices }
-        ensures { NoneAbove SCALE self.now.night.passes.now result.prices }
+        requires there { dish < length self.now.prepared.night.turns.now }
+        requires before { NoneAbove SCALE self.now.prepared.night.passes.now bids.now.prices }
+        ensures { NoneAbove SCALE self.now.prepared.night.passes.now result.prices }
     {
-        let passes = self.night.passes;
+        let passes = self.prepared.night.passes;
         let count = passes.len();
         let gains = less_prices(passes, &bids.prices[..count]);
-        let table = self.night.table_of(dish, &gains[..count]);
+        let after = self.prepared.after;
+        let table = self.prepared.table_of(dish, &gains[..count]);
         let mut asked = [0; WIDE_PASSES];
         let asked = &mut asked[..count];
-        self.night
+        self.prepared
+            .night
             .alone(dish)
-            .follow_table(&table[..count + 1], asked);
+            .follow_table(&after[dish][..count], &table[..count + 1], asked);
         self.moved(asked, step, bids)
     }
 
     // The bids, once a dish has asked for the passes that its plan follows.
     // Kept: by index, as the rooms are arrays, of which the front is used.
     fn moved(&self, asked: &[u8], step: u64, bids: &Bids) -> Bids
-        requires one_each { length asked.now ≡ length self.now.night.passes.now }
-        requires before { NoneAbove SCALE self.now.night.passes.now bids.now.prices }
-        ensures { NoneAbove SCALE self.now.night.passes.now result.prices }
+        requires one_each { length asked.now ≡ length self.now.prepared.night.passes.now }
+        requires before { NoneAbove SCALE self.now.prepared.night.passes.now bids.now.prices }
+        ensures { NoneAbove SCALE self.now.prepared.night.passes.now result.prices }
     {
-        let others = (self.night.turns.len() as u64).saturating_sub(1);
+        let others = (self.prepared.night.turns.len() as u64).saturating_sub(1);
         let mut prices = bids.prices;
         let mut given = bids.given;
-        for (i, pass) in self.night.passes.iter().enumerate() {
+        for (i, pass) in self.prepared.night.passes.iter().enumerate() {
             let change = self.strides[i].saturating_mul(step) / PARTS;
             if asked[i] > 0 {
                 let rise = change.saturating_mul(others);
@@ -155,7 +159,7 @@ impl Auction<'_> {
         ensures { result ≤ WIDE_PASSES * 2 ^ 32 }
     {
         let mut worth = 0;
-        for (i, pass) in self.night.passes.iter().enumerate() {
+        for (i, pass) in self.prepared.night.passes.iter().enumerate() {
             if bids.given[i] > 0 {
                 worth += pass.worth as u64;
             }

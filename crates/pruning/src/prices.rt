@@ -10,9 +10,9 @@ ghost use Rattle.pruning.specs.Units.{WholeIn};
 ghost use Rattle.pruning.specs.Lawful.{rounded_moves, rounded_sums};
 ghost use Rattle.pruning.specs.Prices.{NoneAbove, Moderate, less_prices, LeftFalls, TablesFall, FallsPay, LeftLow, TablesLow};
 
+use crate::prepared::{Prepared, all_successors};
 use crate::rounding::{NextPasses, WIDE_DISHES, WIDE_PASSES, WideNight};
 use crate::tables::ENTRIES;
-use crate::units::unit_of;
 use engine::{Decisions, Gains};
 use passes::Pass;
 
@@ -98,6 +98,16 @@ impl<'a> Priced<'a> {
         ensures same_turns { result.night.turns.now ≡ night.entry.turns.now }
         ensures same_passes { result.night.passes.now ≡ night.entry.passes.now }
     {
+        let after = all_successors(night);
+        Priced::prepared(Prepared::new(night, &after), prices)
+    }
+
+    // The same, for a night that is prepared.
+    pub(crate) fn prepared(prepared: Prepared<'a, '_>, prices: &[u64; WIDE_PASSES]) -> Priced<'a>
+        ensures same_turns { result.night.turns.now ≡ prepared.entry.night.turns.now }
+        ensures same_passes { result.night.passes.now ≡ prepared.entry.night.passes.now }
+    {
+        let night = prepared.night;
         let count = night.passes.len();
         let fair = fair_prices(night.passes, prices);
         let fair = &fair[..count];
@@ -105,8 +115,8 @@ impl<'a> Priced<'a> {
         Priced {
             night,
             left: add_up(fair),
-            tables: night.tables_of(&gains[..count]),
-            unit: unit_of(night.passes),
+            tables: prepared.tables_of(&gains[..count]),
+            unit: prepared.unit,
         }
     }
 }

@@ -25,7 +25,7 @@ fn by_eights<const N: usize>() -> [Pass; N]
 fn gained(turns: &[u32], passes: &[Pass]) -> Option<Gained> {
     let night = WideNight::new(turns, passes)?;
     let count = passes.len();
-    let mut bids = Auction::new(night).run();
+    let mut bids = bids_for(night);
     let problem = Summed {
         gains: Priced::new(night, &bids.prices),
     };

@@ -11,7 +11,7 @@ use Rattle.planner.proofs.planning.plan_each.Goals.{After-gain_most-gained}
 answered : (c : After-gain_most-gained) → GainAnswered (night c.args.night.turns.now c.args.night.passes.now) c.copy_from_slice.new.self c.gain_most-gained.result.most c.gain_most-gained.new.room
 answered c =
     let n = c.args.night in
-    let at_prices = c.new-2.ensures in
+    let at_prices = c.new.ensures in
     gain_same (night n.turns.now n.passes.now) (rounded_night n.turns.now n.passes.now) (rounding_up n.turns.now n.passes.now n.few_dishes n.in_time).runs
     c.copy_from_slice.new.self c.gain_most-gained.new.room c.gain_most-gained.result.most (rw (at_prices.same_turns, at_prices.same_passes) at c.gain_most-gained.ensures.answered)
 

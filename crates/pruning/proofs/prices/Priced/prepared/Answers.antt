@@ -3,7 +3,7 @@ use Rattle.std.proofs.lemmas.List.{get_or-take, length-take-le}
 use Rattle.passes.specs.declared.model.Pass.{Pass}
 use Rattle.pruning.specs.Prices.{Fair, NoneAbove}
 use Rattle.pruning.proofs.TableBounds.{moderate_fits, left_low, tables_low, left_falls, tables_fall, falls_pay}
-use Rattle.pruning.proofs.prices.Priced.new.Goals as goal
+use Rattle.pruning.proofs.prices.Priced.prepared.Goals as goal
 
 -- the front of an array of prices
 fair_front : (ps : List Pass) (prices : List ℕ) → length prices ≡ 128 → length ps ≤ 128 → NoneAbove 1024 ps prices → Fair 1024 ps (take (length ps) prices)
@@ -14,16 +14,16 @@ fair_front ps prices long few none = record {
 
 pub tables_of-requires-clause-sum_fits : goal.tables_of-requires-clause-sum_fits
 tables_of-requires-clause-sum_fits c =
-    let gains = take (length c.args.night.passes.now) c.less_prices-gains.result in
-    let long : length gains ≡ length c.args.night.passes.now = search rules in
-    omega (arith, moderate_fits gains (omega (arith, long, c.args.night.few_passes)) c.less_prices-gains.ensures.moderate)
+    let gains = take (length c.args.prepared.night.passes.now) c.less_prices-gains.result in
+    let long : length gains ≡ length c.args.prepared.night.passes.now = search rules in
+    omega (arith, moderate_fits gains (omega (arith, long, c.args.prepared.night.few_passes)) c.less_prices-gains.ensures.moderate)
 
 pub invariant_of-result : goal.invariant_of-result
 invariant_of-result c =
-    let turns = c.args.night.turns.now in
-    let ps = c.args.night.passes.now in
-    let few = c.args.night.few_passes in
-    let time = c.args.night.in_time in
+    let turns = c.args.prepared.night.turns.now in
+    let ps = c.args.prepared.night.passes.now in
+    let few = c.args.prepared.night.few_passes in
+    let time = c.args.prepared.night.in_time in
     let small = c.fair_prices-fair.ensures.small in
     let prices = take (length ps) c.fair_prices-fair.result in
     let fair = fair_front ps c.fair_prices-fair.result (search rules) few c.fair_prices-fair.ensures.none_above in
@@ -32,8 +32,8 @@ invariant_of-result c =
     let tables = c.tables_of.result in
     let right = rw c.less_prices-gains.ensures.less at c.tables_of.ensures in
     record {
-      some_unit = c.unit_of.ensures.positive;
-      whole = c.unit_of.ensures.whole;
+      some_unit = c.args.prepared.some_unit;
+      whole = c.args.prepared.whole;
       small = small;
       left_low = left_low ps small prices left few fair sums;
       tables_low = tables_low ps small turns prices tables few right;

@@ -1,6 +1,6 @@
 use Rattle.std.proofs.Common.{◌<◌, length, rules}
 use Rattle.std.proofs.Math.ListN.{get_or-append}
-use Rattle.pruning.proofs.rounding.WideNight.table_of.Goals as goal
+use Rattle.pruning.proofs.prepared.Prepared.table_of.Goals as goal
 
 pub returns : goal.returns
 returns c k low high =

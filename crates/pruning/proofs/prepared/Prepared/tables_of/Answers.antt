@@ -3,11 +3,11 @@ use Rattle.std.proofs.lemmas.Bool.{cases_eq}
 use Rattle.std.proofs.lemmas.List.{get_or-set_other, get_or-set_same}
 use Rattle.capacity.specs.Alone.{RightFrom}
 use Rattle.pruning.specs.Prices.{station_of_dish}
-use Rattle.pruning.proofs.rounding.WideNight.tables_of.Goals as goal
+use Rattle.pruning.proofs.prepared.Prepared.tables_of.Goals as goal
 
 pub loop-dish-preserved : goal.loop-dish-preserved
 loop-dish-preserved c =
-    let r = c.args.self.now in
+    let r = c.args.self.now.night in
     let l = c.loop-dish in
     let table = c.table_of.result in
     let tables = set l.tables l.dish table in (
