@@ -5,7 +5,7 @@ use Rattle.std.proofs.lemmas.List.Sorted.{IsNonDecreasingBy-from_all_adjacent}
 use Rattle.std.proofs.lemmas.Bool.Decides.{nat_tests}
 use Rattle.passes.specs.declared.model.Pass.{Pass}
 use Rattle.passes.specs.declared.model.Station.{Station}
-use Rattle.passes.specs.Checks.{dishes_ok, in_range, checked}
+use Rattle.passes.specs.Checks.{in_range, checked}
 use Rattle.passes.specs.Rule.{no_pass, nth}
 use Rattle.passes.proofs.Checking.{checked_says}
 use Rattle.capacity.specs.Order.{EachEnds, InTime}
@@ -24,8 +24,3 @@ in_time_from_neighbours ps ends order = record {
 
 pub in_time_from_checked : (s : Station) (ps : List Pass) → checked s ps ≡ true → InTime ps
 in_time_from_checked s ps h = let ok = checked_says s ps h in in_time_from_neighbours ps (λ i l. in_range_ends (nth ps i) (ok.ranges i l)) ok.order
-
--- a station that was checked has at most four dishes
-pub few_dishes_from_checked : (s : Station) (ps : List Pass) → checked s ps ≡ true → s.dishes ≤ 4
-unfolding dishes_ok
-few_dishes_from_checked s ps h = let ok = (checked_says s ps h).dishes in grind (arith, nat_tests)

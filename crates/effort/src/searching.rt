@@ -1,11 +1,12 @@
 // A list planned in two ways.
-ghost use Rattle.std.specs.Prelude.{◌≡◌, IfOk, IfSome, IsSome};
+ghost use Rattle.std.specs.Prelude.{IfOk, IfSome, IsSome};
 ghost use Rattle.effort.specs.Comparisons.{BestOf};
 
 use crate::cases::{Case, DISHES};
 use engine::{Gained, Summed, gain_most};
 use passes::{MAX_DISHES, Night};
 use planner::{Counted, Scheduling, plan_counted};
+use pruning::WideNight;
 use std::alloc::{AllocError, Global};
 
 // By the planner.
@@ -25,8 +26,12 @@ pub fn searched(alloc: Global, case: &Case) -> Result<Gained, AllocError>
 {
     let night = Night::read(DISHES, case.turn, case.numbers.as_slice()).unwrap();
     let turns = [night.station().turn; MAX_DISHES];
+    let wide = WideNight {
+        turns: &turns,
+        passes: night.passes(),
+    };
     let problem = Summed {
-        gains: Scheduling::new(&turns, night.passes()),
+        gains: Scheduling::new(wide),
     };
     let mut made = vec![in alloc; 0; night.passes().len()]?;
     let mut room = vec![in alloc; u8::MAX; night.passes().len()]?;

@@ -1,5 +1,5 @@
 -- The decisions of a night, pass by pass, and what they gain. Assumes nothing.
-use Rattle.std.proofs.Common.{◌≡◌, ℕ, zero, suc, ◌+◌, ◌≤◌, cond, eqb, List, [], ◌∷◌, length, drop, replicate, Some, None, Option, sym, refl, ap, arith}
+use Rattle.std.proofs.Common.{◌≡◌, ℕ, zero, suc, ◌+◌, ◌≤◌, cond, eqb, List, [], ◌∷◌, length, drop, replicate, sum_by, Some, None, Option, sym, refl, ap, arith}
 use Rattle.std.proofs.lemmas.List.{drop_more, length-replicate}
 use Rattle.std.proofs.lemmas.Option.{option_and_then_some}
 use Rattle.std.specs.Option.{option_and_then, IsSome}
@@ -13,7 +13,6 @@ use Rattle.passes.specs.Plans.{Plan, worth_of}
 use Rattle.passes.specs.Rule.{no_pass, nth}
 use Rattle.planner.specs.declared.scheduling.FreeFrom.{FreeFrom}
 use Rattle.planner.specs.Nights.{decide, night}
-use Rattle.planner.specs.Sums.{all_worth}
 
 worth_none : (ps : List Pass) → worth_of ps [] ≡ 0
 unfolding worth_of
@@ -63,6 +62,10 @@ module _ (turns : List ℕ) where
   gained_worth ps (d ∷ ds) i s e l h =
       let first = leads_first (night turns ps).moves.step i d ds s e h in
       rw (first.1, drop_more ps i no_pass (omega arith)) (ap (λ n. cond (eqb d 0) 0 (nth ps i).worth + n) (gained_worth ps ds (i + 1) first.0 e (omega arith) first.2))
+
+-- what the passes of a list are worth together
+abbrev all_worth : List Pass → ℕ
+all_worth ps = sum_by (λ p. p.worth) ps
 
 -- no plan is worth more than all passes together
 pub worth_at_most : (ps : List Pass) (ds : Plan) → worth_of ps ds ≤ all_worth ps

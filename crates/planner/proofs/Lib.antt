@@ -1,4 +1,3 @@
-pub mod Adding
 pub mod Following
 pub mod Bridge
 pub mod Stations

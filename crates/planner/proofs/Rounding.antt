@@ -1,16 +1,17 @@
 -- Why rounding up changes no run. Assumes nothing.
-use Rattle.std.proofs.Common.{◌≡◌, ◌≢◌, ℕ, ◌+◌, ◌-◌, ◌<◌, ◌≤◌, true, false, List, length, replicate, Some, None, Option, sym, refl, ap, ◌∙◌, ⊎_elim, arith}
+use Rattle.std.proofs.Common.{◌≡◌, ◌≢◌, ℕ, ◌+◌, ◌-◌, ◌<◌, ◌≤◌, true, false, List, length, Some, None, Option, sym, refl, ap, ◌∙◌, ⊎_elim, arith}
 use Rattle.std.specs.Prelude.{slice_index}
 use Rattle.std.specs.Option.{option_map}
 use Rattle.std.proofs.lemmas.Bool.{cases_eq, cases_lt, cases_Bool}
 use Rattle.std.proofs.lemmas.Bool.Decides.{nat_tests}
-use Rattle.std.proofs.lemmas.List.{get_or-set_same, get_or-set_other, get_or-replicate, get_or_past}
+use Rattle.std.proofs.lemmas.List.{get_or-set_same, get_or-set_other}
 use Rattle.std.proofs.lemmas.List.FromFn.{fill_by_all}
 use Rattle.engine.specs.Mapping.{Mapping}
 use Rattle.engine.proofs.Mapping.{same_runs}
 use Rattle.passes.specs.declared.model.Pass.{Pass}
 use Rattle.passes.specs.Rule.{nth}
 use Rattle.capacity.specs.Order.{InTime}
+use Rattle.capacity.proofs.Greedy.{all_zero}
 use Rattle.pruning.specs.declared.rounding.TheConstants.{WIDE_DISHES}
 use Rattle.pruning.specs.declared.rounding.NextPasses.{NextPasses}
 use Rattle.pruning.specs.Rounding.{suits, next_pass, each_dish, free_after, next_then, allowed, go_on, rounded_night}
@@ -22,8 +23,8 @@ use Rattle.planner.specs.Nights.{can_follow, after_following, decide, night}
 use Rattle.planner.specs.Statements.{rounded_up, RoundingUp}
 
 -- two states in which each dish has the same
-each_same : (f g : ℕ → ℕ) → ((d : ℕ) → d < WIDE_DISHES → f d ≡ g d) → each_dish f ≡ each_dish g
-each_same f g same =
+same_states : (f g : ℕ → ℕ) → ((d : ℕ) → d < WIDE_DISHES → f d ≡ g d) → each_dish f ≡ each_dish g
+same_states f g same =
     ap {A = List ℕ} (λ xs. record { next = xs })
     (fill_by_all g (each_dish f).next WIDE_DISHES 0 refl (λ d l. each_dish_at f d l ∙ same d l))
 
@@ -73,11 +74,11 @@ module _ (turns : List ℕ) (ps : List Pass) (time : InTime ps) (i : ℕ) (withi
         (cases_Bool (suits turns d x (nth ps i)))
 
     idle : c ≡ 0 → each_dish (next_then turns ps i c now) ≡ rounded_up turns ps (i + 1) s
-    idle none = each_same _ _ (λ d l. not_followed d l (λ same. omega arith))
+    idle none = same_states _ _ (λ d l. not_followed d l (λ same. omega arith))
 
     -- one that does is free when it has turned
     followed : c ≢ 0 → c ≤ length turns → each_dish (next_then turns ps i c now) ≡ rounded_up turns ps (i + 1) (after_following turns (nth ps i) c s)
-    followed some there = each_same _ _ (λ d l. ⊎_elim
+    followed some there = same_states _ _ (λ d l. ⊎_elim
         (λ same.
         let own : c - 1 ≡ d = omega arith in
         let free : slice_index (after_following turns (nth ps i) c s).seconds d ≡ free_after turns (nth ps i) d = rw own (get_or-set_same s.seconds d _ 0 (omega arith)) in
@@ -120,10 +121,9 @@ module _ (turns : List ℕ) (ps : List Pass) (time : InTime ps) (i : ℕ) (withi
 
 pub rounding_up : RoundingUp
 rounding_up turns ps few time =
-    let zeros : (d : ℕ) → slice_index (replicate WIDE_DISHES 0) d ≡ 0 = λ d. ⊎_elim (λ within. get_or-replicate WIDE_DISHES d 0 0 within) (λ past. get_or_past (replicate WIDE_DISHES 0) d 0 past) (cases_lt d WIDE_DISHES) in
     let maps : Mapping (night turns ps) (rounded_night turns ps) (rounded_up turns ps) = record {
       stages = refl;
-      start = each_same _ _ (λ d l. ap (next_pass turns ps d 0) (sym (zeros d)));
+      start = same_states _ _ (λ d l. ap (next_pass turns ps d 0) (sym (all_zero WIDE_DISHES d)));
       step = λ i c s within fine. step_same turns ps time i within few c s fine;
       gain = λ i c s within fine. refl;
     } in

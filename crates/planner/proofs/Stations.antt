@@ -1,6 +1,6 @@
 -- Nights of a station whose dishes all take the same time to turn. Assumes nothing.
-use Rattle.std.proofs.Common.{◌≡◌, ℕ, zero, suc, ◌-◌, ◌<◌, ◌≤◌, true, false, List, [], ◌∷◌, length, get_or, replicate, sym, refl, ap, ◌∙◌, ⊎_elim, arith}
-use Rattle.std.proofs.lemmas.List.{get_or-replicate, get_or_past, length-replicate}
+use Rattle.std.proofs.Common.{◌≡◌, ℕ, zero, suc, ◌-◌, ◌<◌, ◌≤◌, true, false, List, [], ◌∷◌, length, sym, refl, ap, ◌∙◌, ⊎_elim, arith}
+use Rattle.std.proofs.lemmas.List.{get_or-replicate, length-replicate}
 use Rattle.std.proofs.lemmas.Bool.{cases_lt}
 use Rattle.std.proofs.lemmas.Bool.Decides.{nat_tests}
 use Rattle.engine.specs.Runs.{Run}
@@ -10,9 +10,11 @@ use Rattle.passes.specs.declared.model.Station.{Station}
 use Rattle.passes.specs.Checks.{checked}
 use Rattle.passes.specs.Plans.{Plan, fits_one, fits, Best}
 use Rattle.passes.specs.Rule.{says}
+use Rattle.passes.proofs.Checking.{few_dishes_from_checked}
 use Rattle.capacity.specs.Alone.{BestPlanWorth}
 use Rattle.capacity.specs.Order.{InTime}
-use Rattle.capacity.proofs.Timing.{in_time_from_checked, few_dishes_from_checked}
+use Rattle.capacity.proofs.Greedy.{all_zero}
+use Rattle.capacity.proofs.Timing.{in_time_from_checked}
 use Rattle.pruning.specs.declared.rounding.TheConstants.{WIDE_DISHES}
 use Rattle.planner.specs.declared.scheduling.FreeFrom.{FreeFrom}
 use Rattle.planner.specs.Dishes.{seen_by, fits_each, turns_of}
@@ -20,10 +22,6 @@ use Rattle.planner.specs.Nights.{night}
 use Rattle.planner.specs.Statements.{PlansAreRuns, EachIsNight, StationIsNight}
 use Rattle.planner.proofs.Following.{leads_follow, gained_worth}
 use Rattle.planner.proofs.Bridge.{InReach, one_each, good_from_follow, follow_from_good}
-
--- at the start every dish is free
-zeros : (n k : ℕ) → ◌≡◌ {A = ℕ} (get_or (replicate n 0) k 0) 0
-zeros n k = ⊎_elim (λ within. get_or-replicate n k 0 0 within) (λ past. get_or_past (replicate n 0) k 0 (simp length-replicate past)) (cases_lt k n)
 
 module _ (turns : List ℕ) (ps : List Pass) (few : length turns ≤ WIDE_DISHES) (time : InTime ps) where
   run_follows : (ds : Plan) (e : FreeFrom) → Run (night turns ps).moves ds e → (fits_each turns ps ds ≡ true)
@@ -33,7 +31,7 @@ module _ (turns : List ℕ) (ps : List Pass) (few : length turns ≤ WIDE_DISHES
   good_runs : (ds : Plan) → fits_each turns ps ds ≡ true → (e : FreeFrom) × Run (night turns ps).moves ds e
   good_runs ds good =
       let long = one_each turns ps ds good in
-      let reach : InReach (night turns ps).moves.start ps ds = λ j l some. omega (arith, zeros WIDE_DISHES (says ds j - 1)) in
+      let reach : InReach (night turns ps).moves.start ps ds = λ j l some. omega (arith, all_zero WIDE_DISHES (says ds j - 1)) in
       let end = follow_from_good turns WIDE_DISHES few ps ds (night turns ps).moves.start refl time good reach in
       (end.0, record { one_each = omega arith; ends = leads_follow turns ps ds 0 _ (omega arith) ∙ end.1 })
 
@@ -68,12 +66,12 @@ module _ (p : Pass) (ps : List Pass) (ds : Plan) where
       (cases_lt c s.dishes)
 
 -- each dish by its own time to turn, which is the same for all, is the station's rule
-pub each_same : (s : Station) (ps : List Pass) (ds : Plan) → fits_each (turns_of s) ps ds ≡ fits s ps ds
+pub fits_each_same : (s : Station) (ps : List Pass) (ds : Plan) → fits_each (turns_of s) ps ds ≡ fits s ps ds
 unfolding fits_each fits
-each_same s [] [] = refl
-each_same s [] (d ∷ ds) = refl
-each_same s (p ∷ ps) [] = refl
-each_same s (p ∷ ps) (d ∷ ds) = rw (one_same p ps ds s d, each_same s ps ds) refl
+fits_each_same s [] [] = refl
+fits_each_same s [] (d ∷ ds) = refl
+fits_each_same s (p ∷ ps) [] = refl
+fits_each_same s (p ∷ ps) (d ∷ ds) = rw (one_same p ps ds s d, fits_each_same s ps ds) refl
 
 module _ (s : Station) (ps : List Pass) (ok : checked s ps ≡ true) where
   few_dishes : length (turns_of s) ≤ WIDE_DISHES
@@ -83,8 +81,8 @@ module _ (s : Station) (ps : List Pass) (ok : checked s ps ≡ true) where
   night_of_station =
       let each = each_is_night (turns_of s) ps few_dishes (in_time_from_checked s ps ok) in
       record {
-        runs = λ ds good. each.runs ds (each_same s ps ds ∙ good);
-        plans = λ ds e run. sym (each_same s ps ds) ∙ each.plans ds e run;
+        runs = λ ds good. each.runs ds (fits_each_same s ps ds ∙ good);
+        plans = λ ds e run. sym (fits_each_same s ps ds) ∙ each.plans ds e run;
         worth = each.worth;
       }
 

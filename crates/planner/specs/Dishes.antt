@@ -1,12 +1,13 @@
 -- Good plans for dishes each of which takes its own time to turn. Assumes nothing: these are definitions.
-use Rattle.std.specs.Prelude.{ℕ, ◌-◌, Bool, true, false, ◌&&◌, List, [], ◌∷◌, length, replicate, slice_index}
+use Rattle.std.specs.Prelude.{ℕ, ◌-◌, Bool, true, false, ◌&&◌, List, [], ◌∷◌, replicate}
 use Rattle.passes.specs.declared.model.Pass.{Pass}
 use Rattle.passes.specs.declared.model.Station.{Station}
 use Rattle.passes.specs.Plans.{Plan, fits_one}
+use Rattle.pruning.specs.Prices.{station_of_dish}
 
 -- the station as the dish that plans call d sees it: as if all its dishes took the time to turn that this one takes
 abbrev pub seen_by : (turns : List ℕ) → ℕ → Station
-seen_by turns d = record { dishes = length turns; turn = slice_index turns (d - 1) }
+seen_by turns d = station_of_dish turns (d - 1)
 
 -- the plan is good, where each dish takes its own time to turn, by the numbers of turns
 unfoldable pub fits_each : (turns : List ℕ) → List Pass → Plan → Bool

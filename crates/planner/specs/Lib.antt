@@ -1,5 +1,4 @@
 pub mod Dishes
-pub mod Sums
 pub mod Nights
 pub mod Answers
 pub mod Statements

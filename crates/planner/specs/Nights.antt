@@ -11,7 +11,7 @@ use Rattle.planner.specs.declared.scheduling.FreeFrom.{FreeFrom}
 abbrev pub can_follow : (turns : List ℕ) → Pass → ℕ → FreeFrom → Bool
 can_follow turns p d s = nat_le d (length turns) && (may p (d - 1) && nat_le (slice_index s.seconds (d - 1)) p.from)
 
--- once it has followed the pass it is free when it has turned
+-- once the dish that plans call d has followed the pass, it is free when it has turned
 abbrev pub after_following : (turns : List ℕ) → Pass → ℕ → FreeFrom → FreeFrom
 after_following turns p d s = record { seconds = slice_set s.seconds (d - 1) (p.to + slice_index turns (d - 1)) }
 

@@ -26,7 +26,7 @@ pub record PlansAreRuns {S : Type 0} (good : Plan → Bool) (ps : List Pass) (g 
 abbrev pub EachIsNight : Type 0
 EachIsNight = (turns : List ℕ) (ps : List Pass) → length turns ≤ WIDE_DISHES → InTime ps → PlansAreRuns (fits_each turns ps) ps (night turns ps)
 
--- and so they are for a station and a list that pass the checks
+-- for a station and a list that pass the checks, the good plans are the runs of the night
 abbrev pub StationIsNight : Type 0
 StationIsNight = (s : Station) (ps : List Pass) → checked s ps ≡ true → PlansAreRuns (fits s ps) ps (night (turns_of s) ps)
 
@@ -39,6 +39,7 @@ pub record ChangesNoRun (turns : List ℕ) (ps : List Pass) : Type 0 where
   pub states : Mapping (night turns ps) (rounded_night turns ps) (rounded_up turns ps)
   pub runs : SameRuns (night turns ps) (rounded_night turns ps)
 
+-- for up to eight dishes, each with its own time to turn, and passes in order of time, rounding up changes no run
 abbrev pub RoundingUp : Type 0
 RoundingUp = (turns : List ℕ) (ps : List Pass) → length turns ≤ WIDE_DISHES → InTime ps → ChangesNoRun turns ps
 

@@ -5,8 +5,6 @@ mod laws;
 mod planning;
 mod scheduling;
 
-ghost use Rattle.std.specs.Prelude.{◌≤◌};
-
 pub use laws::{
     each_is_night_stands, has_best_stands, more_dishes_stands, one_more_stands, rounding_up_stands,
     side_by_side_stands, station_is_night_stands,
@@ -19,6 +17,7 @@ mod tests {
     use super::*;
     use engine::{Gained, Summed, gain_most};
     use passes::{Pass, Refusal};
+    use pruning::{WIDE_PASSES, WideNight};
     use std::array;
     use std::test::Fail;
 
@@ -133,6 +132,18 @@ mod tests {
         Ok(())
     }
 
+    // What the plain search gains at most by dishes that take so long to turn, and how many states it visits for it.
+    fn gained(turns: &[u32], passes: &[Pass]) -> Option<Gained> {
+        let night = WideNight::new(turns, passes)?;
+        let count = passes.len();
+        let problem = Summed {
+            gains: Scheduling::new(night),
+        };
+        let mut made = [0; WIDE_PASSES];
+        let mut room = [9; WIDE_PASSES];
+        Some(gain_most(&problem, &mut made[..count], &mut [], &mut room[..count]))
+    }
+
     #[test]
     fn the_plain_search(rt: HostRuntime) {
         let pass = |from, to| Pass {
@@ -144,18 +155,8 @@ mod tests {
         let passes = [pass(0, 10), pass(10, 20), pass(20, 30)];
         // a dish that doesn't have to turn follows all, and one that does every other one
         for (turn, most, visited) in [(0, 3, 5), (1, 2, 5)] {
-            let turns = [turn];
-            let problem = Summed {
-                gains: Scheduling::new(&turns, &passes),
-            };
-            let mut room = [9; 3];
-            assert_eq!(rt;
-                gain_most(&problem, &mut [0; 3], &mut [], &mut room),
-                Gained {
-                    most: Some(most),
-                    visited
-                }
-            );
+            let most = Some(most);
+            assert_eq!(rt; gained(&[turn], &passes), Some(Gained { most, visited }));
         }
     }
 }

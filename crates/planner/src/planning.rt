@@ -17,7 +17,7 @@ use pruning::{Priced, WIDE_PASSES, WideNight, bids_for};
 const PLACES: usize = 4096;
 
 // What came of planning.
-// Kept: the planning entry's form is fixed, a kind and a number, since C has no `Result`.
+// Kept: a kind and a number, and no `Result`: the form of the entry is fixed, so that C could call it.
 #[derive(Clone, Copy, Debug, PartialEq)]
 pub enum Done {
     // What the plan is worth.
@@ -73,7 +73,7 @@ pub fn plan_counted(
     ensures planned { MatchResult result (λ c. BestPlanWorth (station_of dishes turn) (passes_in passes.now) room.new c.worth) (λ _. room.new ≡ room.old) }
 {
     let night = Night::read_for_room(dishes, turn, passes, room.len())?;
-    Ok(plan_night(&night, room))
+    Ok(best_of_night(&night, room))
 }
 
 // As `try_plan`, for a night that was taken already: only the room may be refused.
@@ -83,12 +83,12 @@ pub fn plan_taken(night: &Night, room: &mut [u8]) -> Result<u64, Refusal>
     ensures planned { MatchResult result (λ w. BestPlanWorth night.now.station (passes_of night.now) room.new w) (λ _. room.new ≡ room.old) }
 {
     night.check_room(room.len())?;
-    Ok(plan_night(night, room).worth)
+    Ok(best_of_night(night, room).worth)
 }
 
 // Leaves a best plan of a night in the room, and answers its worth.
 // Kept: the room stands beside the night, since it is the caller's and is lent to be written.
-fn plan_night(night: &Night, room: &mut [u8]) -> Counted
+fn best_of_night(night: &Night, room: &mut [u8]) -> Counted
     requires one_each { length room.old ≡ length (passes_of night.now) }
     ensures { BestPlanWorth night.now.station (passes_of night.now) room.new result.worth }
 {

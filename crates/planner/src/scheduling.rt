@@ -2,13 +2,13 @@
 ghost use Rattle.std.specs.Prelude.{◌≡◌, ◌≤◌, length};
 ghost use Rattle.pruning.specs.declared.rounding.TheConstants.{WIDE_DISHES, WIDE_PASSES};
 ghost use Rattle.pruning.specs.Rounding.{Small};
-ghost use Rattle.planner.specs.Sums.{AddsUp};
+ghost use Rattle.pruning.specs.Sums.{AddsUp};
 ghost use Rattle.planner.specs.Nights.{night};
 ghost use Rattle.planner.specs.Lawful.{night_moves, night_sums};
 
 use engine::{Decisions, Gains};
 use passes::Pass;
-use pruning::{WIDE_DISHES, WIDE_PASSES};
+use pruning::{WIDE_DISHES, WIDE_PASSES, WideNight};
 
 const ENTRIES: usize = WIDE_PASSES + 1;
 
@@ -19,34 +19,25 @@ pub struct FreeFrom {
     seconds: [u64; WIDE_DISHES],
 }
 
-// Passes, and how long each dish takes to turn.
+// A night, and what its passes may still gain.
 #[derive(Drop)]
 pub struct Scheduling<'a> {
-    turns: &'a [u32],
-    passes: &'a [Pass],
+    night: WideNight<'a>,
     // What the passes from each on are worth together.
     // Kept: as long as the most passes ask, since memory is fixed.
     left: [u64; ENTRIES],
-    ghost few_dishes: { length turns.now ≤ WIDE_DISHES },
-    ghost few_passes: { length passes.now ≤ WIDE_PASSES },
-    ghost small: { Small passes.now },
-    ghost sums: { AddsUp passes.now 0 left },
+    ghost small: { Small night.passes.now },
+    ghost sums: { AddsUp (λ p. p.worth) night.passes.now 0 left },
 }
 
 impl<'a> Scheduling<'a> {
-    // The night of these dishes and passes.
-    pub fn new(turns: &'a [u32], passes: &'a [Pass]) -> Scheduling<'a>
-        requires few_dishes { length turns.now ≤ WIDE_DISHES }
-        requires few_passes { length passes.now ≤ WIDE_PASSES }
-        ensures same_turns { result.turns.now ≡ turns.now }
-        ensures same_passes { result.passes.now ≡ passes.now }
+    // The night as decisions.
+    pub fn new(night: WideNight<'a>) -> Scheduling<'a>
+        ensures same_turns { result.night.turns.now ≡ night.entry.turns.now }
+        ensures same_passes { result.night.passes.now ≡ night.entry.passes.now }
     {
-        let left = add_up(passes);
-        Scheduling {
-            turns,
-            passes,
-            left,
-        }
+        let left = add_up(night.passes);
+        Scheduling { night, left }
     }
 }
 
@@ -56,7 +47,7 @@ impl<'a> Scheduling<'a> {
 fn add_up(passes: &[Pass]) -> [u64; ENTRIES]
     requires few_passes { length passes.now ≤ WIDE_PASSES }
     ensures small { Small passes.now }
-    ensures sums { AddsUp passes.now 0 result }
+    ensures sums { AddsUp (λ p. p.worth) passes.now 0 result }
 {
     let mut left = [0; ENTRIES];
     for (i, pass) in passes.iter().enumerate().rev() {
@@ -69,16 +60,16 @@ fn add_up(passes: &[Pass]) -> [u64; ENTRIES]
 impl Decisions for Scheduling<'_> {
     type State = FreeFrom;
 
-    ghost moves = { λ p. (night p.turns.now p.passes.now).moves };
+    ghost moves = { λ p. (night p.night.turns.now p.night.passes.now).moves };
 
-    ghost move_laws = { λ p. night_moves p.turns.now p.passes.now };
+    ghost move_laws = { λ p. night_moves p.night.turns.now p.night.passes.now };
 
     fn stages(&self) -> usize {
-        self.passes.len()
+        self.night.passes.len()
     }
 
     fn choices(&self, _stage: usize) -> u8 {
-        self.turns.len() as u8 + 1
+        self.night.turns.len() as u8 + 1
     }
 
     fn start(&self) -> FreeFrom {
@@ -91,8 +82,8 @@ impl Decisions for Scheduling<'_> {
         let Some(dish) = choice.checked_sub(1) else {
             return Some(state);
         };
-        let pass = &self.passes[stage];
-        let turn = *self.turns.get(dish as usize)?;
+        let pass = &self.night.passes[stage];
+        let turn = *self.night.turns.get(dish as usize)?;
         if !pass.may_be_followed_by(dish) || state.seconds[dish as usize] > pass.from as u64 {
             return None;
         }
@@ -102,18 +93,18 @@ impl Decisions for Scheduling<'_> {
 }
 
 impl Gains for Scheduling<'_> {
-    ghost gain = { λ p. (night p.turns.now p.passes.now).gain };
+    ghost gain = { λ p. (night p.night.turns.now p.night.passes.now).gain };
 
-    ghost most = { λ p. (night p.turns.now p.passes.now).most };
+    ghost most = { λ p. (night p.night.turns.now p.night.passes.now).most };
 
-    ghost sum_laws = { λ p. night_sums p.turns.now p.passes.now p.small p.few_passes };
+    ghost sum_laws = { λ p. night_sums p.night.turns.now p.night.passes.now p.small p.night.few_passes };
 
     fn gain(&self, stage: usize, choice: u8, _state: FreeFrom) -> u64 {
         // Kept: which dish follows the pass isn't asked here, so `checked_sub` would be no plainer than a test for 0.
         if choice == 0 {
             0
         } else {
-            self.passes[stage].worth as u64
+            self.night.passes[stage].worth as u64
         }
     }
 

@@ -4,12 +4,12 @@ use Rattle.std.proofs.lemmas.List.{take-replicate}
 use Rattle.std.proofs.lemmas.Result.{MatchResult-at_ok}
 use Rattle.passes.specs.Plans.{Plan}
 use Rattle.passes.specs.Rule.{says}
-use Rattle.passes.proofs.Checking.{checked_says}
+use Rattle.passes.proofs.Checking.{checked_says, few_dishes_from_checked}
 use Rattle.passes.proofs.Goodness.{fits_says}
 use Rattle.passes.proofs.Taking.{room_ok}
 use Rattle.capacity.specs.Assignments.{FollowsAll}
 use Rattle.capacity.proofs.Greedy.{all_zero}
-use Rattle.capacity.proofs.Timing.{in_time_from_checked, few_dishes_from_checked}
+use Rattle.capacity.proofs.Timing.{in_time_from_checked}
 use Rattle.capacity.proofs.assigning.assign_all.Goals as goal
 
 pub give_dishes-requires : goal.give_dishes-requires

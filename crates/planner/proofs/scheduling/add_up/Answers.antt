@@ -1,9 +1,10 @@
-use Rattle.std.proofs.Common.{◌≡◌, ◌+◌, ◌^◌, ◌<◌, [], ◌∷◌, length, get_or, replicate, refl, ap, sym, ◌∙◌, ⊎_elim, arith, rules}
-use Rattle.std.proofs.lemmas.List.{append-nil, get_or-replicate, get_or-set_same, length-set}
+use Rattle.std.proofs.Common.{◌≡◌, ◌+◌, ◌^◌, ◌<◌, [], ◌∷◌, length, get_or, refl, ap, sym, ◌∙◌, ⊎_elim, arith, rules}
+use Rattle.std.proofs.lemmas.List.{append-nil, get_or-set_same, length-set}
 use Rattle.std.proofs.lemmas.Bool.{cases_eq}
 use Rattle.passes.specs.Rule.{no_pass, nth}
+use Rattle.capacity.proofs.Greedy.{all_zero}
 use Rattle.capacity.proofs.Tables.{last_left}
-use Rattle.planner.proofs.Adding.{adds_up_none, adds_up_low, adds_up_more}
+use Rattle.pruning.proofs.Adding.{adds_up_none, adds_up_more}
 use Rattle.planner.proofs.scheduling.add_up.Goals as goal
 
 pub loop-i-init : goal.loop-i-init
@@ -14,9 +15,9 @@ loop-i-init c =
       count = search rules;
       of_passes = ([], append-nil _ ∙ all);
       long = refl;
-      sums = rw all (adds_up_none ps (replicate 129 0) (omega arith) (get_or-replicate 129 (length ps) 0 0 (omega arith)));
+      sums = rw all (adds_up_none (λ p. p.worth) ps 129 (omega arith));
       small = rw all (λ k l m. absurd (omega arith));
-      low = rw all (adds_up_low ps 129 (omega arith));
+      low = rw all (omega (arith, all_zero 129 (length ps)));
     }
 
 pub loop-i-preserved : goal.loop-i-preserved
@@ -39,7 +40,7 @@ loop-i-preserved c =
       count = told.0 ∙ l.invariant.count;
       of_passes = (pass ∷ before.0, at.0);
       long = search (rules, length-set);
-      sums = rw here (adds_up_more ps l.left j _ at.2 room (rw here at sum) (rw at.1 at l.invariant.sums));
+      sums = rw here (adds_up_more (λ p. p.worth) ps l.left j _ no_pass at.2 room (rw here at sum) (rw at.1 at l.invariant.sums));
       small = λ k low high. ⊎_elim (λ same. rw same (omega arith)) (λ other. l.invariant.small k (omega (arith, at.1)) high) (cases_eq k j);
       low = rw (here, get_or-set_same l.left j _ 0 room) (omega (arith, l.invariant.low, at.1, at.2, ap (λ x. get_or l.left x 0) next));
     }

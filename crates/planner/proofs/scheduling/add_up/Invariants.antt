@@ -1,7 +1,7 @@
 use Rattle.std.proofs.Common.{◌≡◌, ℕ, ◌-◌, ◌*◌, ◌^◌, ◌<◌, ◌≤◌, List, ◌++◌, length, get_or}
 use Rattle.passes.specs.declared.model.Pass.{Pass}
 use Rattle.passes.specs.Rule.{nth}
-use Rattle.planner.specs.Sums.{AddsUp}
+use Rattle.pruning.specs.Sums.{AddsUp}
 use Rattle.planner.proofs.scheduling.add_up.Given as goal
 
 -- the passes that are left stand before those that were seen, and the entries behind them are right, and small enough for one more
@@ -11,7 +11,7 @@ invariant-loop-i l =
       count : l.i-iterator.iter.count ≡ 0;
       of_passes : (seen : List Pass) × (left ++ seen ≡ l.passes);
       long : length l.left ≡ 129;
-      sums : AddsUp l.passes (length left) l.left;
+      sums : AddsUp (λ p. p.worth) l.passes (length left) l.left;
       small : (k : ℕ) → length left ≤ k → k < length l.passes → (nth l.passes k).worth < 2 ^ 32;
       low : get_or l.left (length left) 0 ≤ (length l.passes - length left) * 2 ^ 32;
     }

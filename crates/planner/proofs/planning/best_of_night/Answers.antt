@@ -1,12 +1,12 @@
 use Rattle.std.proofs.Common.{◌≤◌, length, replicate, sym, ap, ◌∙◌, arith}
 use Rattle.std.proofs.lemmas.List.{length-take-le, take-replicate}
 use Rattle.passes.specs.Nights.{passes_of}
-use Rattle.passes.proofs.Checking.{checked_says}
-use Rattle.capacity.proofs.Timing.{in_time_from_checked, few_dishes_from_checked}
+use Rattle.passes.proofs.Checking.{checked_says, few_dishes_from_checked}
+use Rattle.capacity.proofs.Timing.{in_time_from_checked}
 use Rattle.planner.specs.Dishes.{turns_of}
 use Rattle.planner.proofs.Stations.{planned_from_gain}
-use Rattle.planner.proofs.planning.plan_night.Goals as goal
-use Rattle.planner.proofs.planning.plan_night.Goals.{After-station-station}
+use Rattle.planner.proofs.planning.best_of_night.Goals as goal
+use Rattle.planner.proofs.planning.best_of_night.Goals.{After-station-station}
 
 four_dishes : (c : After-station-station) → c.station-station.result.dishes ≤ 4
 four_dishes c = omega (arith, few_dishes_from_checked _ _ c.args.night.now.ok, ap (λ s. s.dishes) c.station-station.ensures)
