@@ -2,4 +2,4 @@ pub mod Growing
 pub mod Fronts
 pub mod Middles
 pub mod Plainly
-pub mod Drawing
+pub mod Sorting

@@ -20,7 +20,7 @@ abbrev pub TrueOf : ℕ → Option ℕ → Comparison → Type 0
 TrueOf w other Same = other ≡ Some w
 TrueOf w other Differs = other ≡ Some w → ⊥
 
--- it is true of two worths, each of which is that of a best plan of the list
+-- what is said of two worths is true, each of which is that of a best plan of the list
 pub record Compared (t : ℕ) (xs : List ℕ) (c : Comparison) : Type 0 where
   pub planned : ℕ
   pub planned_best : BestOf t xs planned

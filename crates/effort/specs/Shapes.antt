@@ -1,5 +1,5 @@
 -- Which lists are of a shape. Assumes nothing: these are definitions.
-use Rattle.std.specs.Prelude.{◌≡◌, ℕ, ◌+◌, ◌-◌, ◌*◌, ◌%◌, ◌^◌, ◌<◌, ◌≤◌, List, [], ◌∷◌, ◌==◌, length, Contains, MatchBool, All, Any, slice_index}
+use Rattle.std.specs.Prelude.{◌≡◌, ℕ, ◌+◌, ◌-◌, ◌*◌, ◌%◌, ◌^◌, ◌<◌, ◌≤◌, List, [], ◌∷◌, ◌==◌, length, Contains, MatchBool, ⊤, All, Any, slice_index}
 use Rattle.std.specs.List.Sorted.{IsNonDecreasing}
 use Rattle.passes.specs.declared.model.Pass.{Pass}
 use Rattle.passes.specs.Numbers.{pass_at}
@@ -7,47 +7,47 @@ use Rattle.effort.specs.declared.shapes.Shape.{Shape}
 use Rattle.effort.specs.declared.shapes.Shape.TheVariants.{Ordinary, Overlapping, LongAndShort, Staggered, AllMarks, HalfMarks, PairMarks, FewMarks, EqualWorths, SmallWorths, LargeWorths, WorthsByLength, NoTurning, HugeTurning}
 
 -- the number is a or b, or one between them
-abbrev pub Within : (a b : ℕ) → ℕ → Type 0
-Within a b n = (a ≤ n) × (n ≤ b)
+abbrev pub Between : (a b : ℕ) → ℕ → Type 0
+Between a b n = (a ≤ n) × (n ≤ b)
 
 -- how many passes a list of the shape has
 abbrev pub count_of : Shape → ℕ
 count_of Ordinary = 40
 count_of _ = 48
 
--- how long its dishes may take to turn
+-- how long the dishes of a list of the shape may take to turn
 abbrev pub TurnOf : Shape → ℕ → Type 0
 TurnOf NoTurning t = t ≡ 0
-TurnOf HugeTurning t = Within 2000 20000 t
-TurnOf _ t = Within 60 120 t
+TurnOf HugeTurning t = Between 2000 20000 t
+TurnOf _ t = Between 60 120 t
 
 -- which second may be the last in which a pass may begin: between 8 and 12 hours for an ordinary list, between 1 and 3 for a dense one
 abbrev pub SpanOf : Shape → ℕ → Type 0
-SpanOf Ordinary x = Within 28800 43200 x
+SpanOf Ordinary x = Between 28800 43200 x
 SpanOf Overlapping x = x ≡ 600
-SpanOf LongAndShort x = Within 3600 14400 x
+SpanOf LongAndShort x = Between 3600 14400 x
 SpanOf Staggered x = x ≡ 2880
-SpanOf _ x = Within 3600 10800 x
+SpanOf _ x = Between 3600 10800 x
 
--- in which second a pass may begin for place i: for a staggered list in the first ten of minute i
+-- in which second a pass may begin for place i: for a staggered list in the first ten of minute i, else in any
 abbrev pub BeginOf : Shape → (i : ℕ) → ℕ → Type 0
-BeginOf Staggered i x = Within (60 * i) (60 * i + 10) x
-BeginOf _ i x = 0 ≤ x
+BeginOf Staggered i x = Between (60 * i) (60 * i + 10) x
+BeginOf _ i x = ⊤
 
 -- how long pass i may last: longer than begins lie apart, where passes overlap
 abbrev pub LengthOf : Shape → (i : ℕ) → ℕ → Type 0
-LengthOf Overlapping i n = Within 601 900 n
-LengthOf LongAndShort i n = MatchBool (i % 4 == 0) (Within 1800 5400 n) (Within 120 300 n)
+LengthOf Overlapping i n = Between 601 900 n
+LengthOf LongAndShort i n = MatchBool (i % 4 == 0) (Between 1800 5400 n) (Between 120 300 n)
 LengthOf Staggered i n = n ≡ 1260
-LengthOf _ i n = Within 300 900 n
+LengthOf _ i n = Between 300 900 n
 
 -- what a pass may be worth that lasts n seconds
 abbrev pub WorthOf : Shape → (n : ℕ) → ℕ → Type 0
 WorthOf EqualWorths n w = w ≡ 50
-WorthOf SmallWorths n w = Within 1 5 w
-WorthOf LargeWorths n w = Within 1 1000000 w
+WorthOf SmallWorths n w = Between 1 5 w
+WorthOf LargeWorths n w = Between 1 1000000 w
 WorthOf WorthsByLength n w = w ≡ n
-WorthOf _ n w = Within 1 100 w
+WorthOf _ n w = Between 1 100 w
 
 -- the marks of two dishes
 abbrev pub IsPair : ℕ → Type 0

@@ -4,7 +4,7 @@ ghost use Rattle.effort.specs.declared.comparing.TheConstants.{FRONT};
 ghost use Rattle.effort.specs.Comparisons.{TrueOf, Compared, differs};
 
 use crate::cases::Case;
-use crate::searching::{planned, searched};
+use crate::searching::{plan_by_plain_search, plan_by_planner};
 use std::alloc::{AllocError, Global};
 use std::fmt;
 
@@ -19,7 +19,7 @@ pub enum Comparison {
 }
 
 impl Comparison {
-    // Of these worths. The plain search may have found no plan.
+    // What may be said of two worths. The plain search may have found no plan.
     fn of(planned: u64, searched: Option<u64>) -> Comparison
         ensures { TrueOf planned searched result }
     {
@@ -36,8 +36,8 @@ pub fn compare(alloc: Global, case: &Case) -> Result<Comparison, AllocError>
     ensures { IfOk result (Compared case.now.turn (take (4 * FRONT) case.now.numbers.items)) }
 {
     let front = case.front(alloc, FRONT)?;
-    let planned = planned(alloc, &front)?;
-    let searched = searched(alloc, &front)?;
+    let planned = plan_by_planner(alloc, &front)?;
+    let searched = plan_by_plain_search(alloc, &front)?;
     Ok(Comparison::of(planned.worth, searched.most))
 }
 
@@ -49,7 +49,7 @@ pub struct Score {
 }
 
 impl Score {
-    // Of these comparisons.
+    // What came of some comparisons.
     pub fn of(comparisons: &[Comparison]) -> Score
         ensures lists { result.lists ≡ length comparisons.now }
         ensures differ { result.differ ≡ count_by differs comparisons.now }

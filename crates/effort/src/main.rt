@@ -14,7 +14,7 @@ mod times;
 
 use cases::Case;
 use comparing::{Comparison, Score, compare};
-use searching::planned;
+use searching::plan_by_planner;
 use shapes::Shape;
 use spread::Spread;
 use std::alloc::{AllocError, Global};
@@ -63,7 +63,7 @@ fn visits(alloc: Global, cases: &[Case]) -> Result<Vec<u64>, AllocError>
 {
     let mut visits = Vec::new(alloc);
     for case in cases {
-        visits.push(planned(alloc, case)?.visited)?;
+        visits.push(plan_by_planner(alloc, case)?.visited)?;
     }
     Ok(visits)
 }

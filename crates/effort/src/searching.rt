@@ -9,8 +9,8 @@ use planner::{Counted, Scheduling, plan_counted};
 use pruning::WideNight;
 use std::alloc::{AllocError, Global};
 
-// By the planner.
-pub fn planned(alloc: Global, case: &Case) -> Result<Counted, AllocError>
+// What the planner answers for a list.
+pub fn plan_by_planner(alloc: Global, case: &Case) -> Result<Counted, AllocError>
     ensures { IfOk result (λ counted. BestOf case.now.turn case.now.numbers.items counted.worth) }
 {
     let numbers = case.numbers.as_slice();
@@ -18,9 +18,9 @@ pub fn planned(alloc: Global, case: &Case) -> Result<Counted, AllocError>
     Ok(plan_counted(DISHES, case.turn, numbers, room.as_mut_slice()).unwrap())
 }
 
-// By the plain search, which goes through the seconds from which dishes are free, knows no prices and remembers no states. It begins with a room that
-// holds no run.
-pub fn searched(alloc: Global, case: &Case) -> Result<Gained, AllocError>
+// What the plain search answers for a list. It goes through the seconds from which dishes are free, knows no prices and
+// remembers no states, and begins with a room that holds no run.
+pub fn plan_by_plain_search(alloc: Global, case: &Case) -> Result<Gained, AllocError>
     ensures some { IfOk result (λ gained. IsSome gained.most) }
     ensures worth { IfOk result (λ gained. IfSome gained.most (BestOf case.now.turn case.now.numbers.items)) }
 {

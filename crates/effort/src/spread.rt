@@ -4,6 +4,7 @@ ghost use Rattle.effort.specs.Spreads.{SpreadOf};
 
 use std::fmt;
 
+// The median and the largest of some numbers.
 #[derive(Clone, Copy)]
 pub struct Spread {
     pub median: u64,
@@ -11,7 +12,7 @@ pub struct Spread {
 }
 
 impl Spread {
-    // Of these numbers, if there are any. Of two in the middle the median is the lower.
+    // The median and the largest of some numbers, if there are any. Of two in the middle the median is the lower.
     pub fn of(mut numbers: Vec<u64>) -> Option<Spread>
         ensures { MatchOption result (numbers.items ≡ []) (SpreadOf numbers.items) }
     {

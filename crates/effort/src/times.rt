@@ -6,7 +6,7 @@ ghost use Rattle.std.specs.Duration.{as_secs_f64};
 ghost use Rattle.effort.specs.Ways.{VisitsBy};
 
 use crate::cases::Case;
-use crate::searching::{planned, searched};
+use crate::searching::{plan_by_plain_search, plan_by_planner};
 use crate::spread::Spread;
 use capacity::plan_one_dish;
 use std::alloc::{AllocError, Global};
@@ -31,8 +31,8 @@ impl Way {
         ensures { IfOk result (VisitsBy self) }
     {
         match self {
-            Way::Planner => Ok(planned(alloc, case)?.visited),
-            Way::PlainSearch => Ok(searched(alloc, case)?.visited),
+            Way::Planner => Ok(plan_by_planner(alloc, case)?.visited),
+            Way::PlainSearch => Ok(plan_by_plain_search(alloc, case)?.visited),
             Way::OneDish => {
                 let numbers = case.numbers.as_slice();
                 let mut room = vec![in alloc; 0; numbers.len() / 4]?;
@@ -52,7 +52,7 @@ struct Effort {
 }
 
 impl Effort {
-    // Of planning these lists in one way.
+    // What planning some lists in one way takes.
     fn of(rt: &HostRuntime, way: Way, cases: &[Case]) -> io::Result<Effort>
         ensures { IfOk result (λ effort. vec_len effort.each ≡ length cases.now) }
     {

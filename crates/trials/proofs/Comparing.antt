@@ -1,6 +1,5 @@
 -- What follows where a plan is compared with what a best one is worth. Assumes nothing.
-use Rattle.std.proofs.Common.{◌≡◌, ℕ, true, List, length, Some, Option, Ok, Err, Result, IfOk, ap, arith}
-use Rattle.std.proofs.lemmas.Bool.{both_ways}
+use Rattle.std.proofs.Common.{◌≡◌, ℕ, true, List, length, Some, Option, Ok, Result, IfOk, arith}
 use Rattle.std.specs.Result.{result_err}
 use Rattle.passes.specs.declared.model.Pass.{Pass}
 use Rattle.passes.specs.declared.model.Station.{Station}
@@ -9,7 +8,7 @@ use Rattle.passes.specs.Plans.{Plan, fits, worth_of, Best}
 use Rattle.passes.specs.Refusals.{room_refused}
 use Rattle.passes.specs.Statements.{BestWorth}
 use Rattle.passes.specs.Verdicts.{Verdict, TrueVerdict}
-use Rattle.passes.proofs.Goodness.{fits_says}
+use Rattle.passes.proofs.Judged.{judged_good}
 use Rattle.planner.specs.declared.planning.Done.{Done}
 use Rattle.trials.specs.Numbered.{MostOfAll}
 use Rattle.trials.specs.Trials.{Right}
@@ -17,10 +16,8 @@ use Rattle.trials.specs.Trials.{Right}
 -- what is right is judged to be good
 pub right_verdict : (s : Station) (ps : List Pass) (done : Done) (ds : Plan) (r : Result Verdict Refusal) →
     result_err r ≡ room_refused (length ps) (length ds) → IfOk r (TrueVerdict s ps ds) → Right s ps done ds → r ≡ Ok (Ok (worth_of ps ds))
-unfolding room_refused Best
-right_verdict s ps done ds (Ok (Ok v)) taken said right = ap (λ x. Ok (Ok x)) said.1
-right_verdict s ps done ds (Ok (Err flaw)) taken said right = absurd (both_ways _ said.0 right.0.0)
-right_verdict s ps done ds (Err why) taken said right = let long = (fits_says s ps ds right.0.0).one_each in absurd (grind (arith, taken, long))
+unfolding Best
+right_verdict s ps done ds r taken said right = judged_good s ps ds r taken said right.0.0
 
 module _ (s : Station) (ps : List Pass) (most : Option ℕ) (all : MostOfAll s ps most) (w : ℕ) (some : most ≡ Some w) (ds : Plan) where
   best : BestWorth s ps w

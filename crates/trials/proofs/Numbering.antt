@@ -1,9 +1,9 @@
 -- Why going through the numbers goes through all plans. Assumes nothing.
-use Rattle.std.proofs.Common.{◌≡◌, ℕ, zero, suc, ◌+◌, ◌-◌, ◌*◌, ◌^◌, ◌<◌, ◌≤◌, ◌/◌, ◌%◌, Bool, true, false, cond, List, [], ◌∷◌, ◌++◌, length, take, set, max, sym, refl, ap, ◌∙◌, ⊎_elim, arith}
+use Rattle.std.proofs.Common.{◌≡◌, ℕ, zero, suc, ◌+◌, ◌-◌, ◌*◌, ◌^◌, ◌<◌, ◌≤◌, ◌/◌, ◌%◌, Bool, true, false, cond, List, [], ◌∷◌, ◌++◌, length, take, set, max, sym, refl, ap, ◌∙◌, arith, below_more}
 use Rattle.std.proofs.Math.Nat.{le-max_left, le-max_right, max-le, pow-succ', pow-zero}
 use Rattle.std.proofs.lemmas.Bool.Decides.{nat_tests}
 use Rattle.std.specs.Ordering.{ord_max, nat_cmp}
-use Rattle.std.proofs.lemmas.Bool.{both_ways, cases_lt}
+use Rattle.std.proofs.lemmas.Bool.{both_ways}
 use Rattle.std.proofs.lemmas.List.{append-nil, append_assoc, nil_from_length, take_all, take_more_set}
 use Rattle.std.proofs.lemmas.Nat.{div-mul-add, mod-mul-add, mul-add-lt}
 use Rattle.passes.specs.declared.model.Pass.{Pass}
@@ -58,11 +58,8 @@ module _ (s : Station) (ps : List Pass) where
   -- whoever is no less than w, and than what the plan of n is worth if it is good, is no less than any up to it
   most_more : (n w v : ℕ) → MostBelow n w → w ≤ v → (fits s ps (nth_plan n) ≡ true → worth_of ps (nth_plan n) ≤ v) →
       (m : ℕ) → m < n + 1 → fits s ps (nth_plan m) ≡ true → worth_of ps (nth_plan m) ≤ v
-  most_more n w v h more this m l good =
-      ⊎_elim
-      (λ before. omega (arith, h.most m before good, more))
-      (λ (rest : n ≤ m). let same : m ≡ n = omega arith in rw same (this (rw same at good)))
-      (cases_lt m n)
+  most_more n w v h more this =
+      below_more (λ m. fits s ps (nth_plan m) ≡ true → worth_of ps (nth_plan m) ≤ v) n (λ m l good. omega (arith, h.most m l good, more)) this
 
   -- one plan more
   pub one_more : (n w : ℕ) → MostBelow n w → MostBelow (n + 1) (max w (cond (fits s ps (nth_plan n)) (worth_of ps (nth_plan n)) 0))

@@ -10,7 +10,7 @@ abbrev pub CountOf : Kind → ℕ → Type 0
 CountOf NoPasses n = n ≡ 0
 CountOf _ n = 0 < n
 
--- how long its dishes may take to turn
+-- how long the dishes of a list of the kind may take to turn
 abbrev pub TurnOf : Kind → ℕ → Type 0
 TurnOf NoTurning t = t ≡ 0
 TurnOf LargeTurning t = 50000 ≤ t

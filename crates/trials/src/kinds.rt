@@ -1,6 +1,7 @@
 // Kinds of random cases.
 ghost use Rattle.std.specs.Prelude.{◌≡◌, ◌+◌, ◌<◌, ◌≤◌, true};
 ghost use Rattle.passes.specs.Checks.{in_range};
+ghost use Rattle.passes.specs.declared.nights.TheConstants.{MAX_DISHES};
 ghost use Rattle.trials.specs.declared.kinds.TheConstants.{TRIED_PASSES};
 ghost use Rattle.trials.specs.Kinds.{CountOf, TurnOf, TimesOf, MarksOf, PassOf};
 
@@ -74,7 +75,7 @@ impl Kind {
     #[tactic(auto, using(std::proofs::lemmas::Bool::Decides::nat_tests), unfolding(passes::specs::Checks::in_range))]
     pub fn pass<R: Rng>(self, rng: &mut R, dishes: u32, place: u32, before: u32) -> Pass
         requires some_dishes { 0 < dishes }
-        requires few_dishes { dishes ≤ 4 }
+        requires few_dishes { dishes ≤ MAX_DISHES }
         requires early { before ≤ 500000 }
         ensures range { in_range result ≡ true }
         ensures later { before ≤ result.from }
@@ -109,7 +110,7 @@ impl Kind {
     // Of which of the dishes it has the marks.
     fn marks<R: Rng>(self, rng: &mut R, dishes: u32, place: u32) -> u8
         requires some_dishes { 0 < dishes }
-        requires few_dishes { dishes ≤ 4 }
+        requires few_dishes { dishes ≤ MAX_DISHES }
         ensures small { result ≤ 15 }
         ensures kind { MarksOf self dishes place result }
     {

@@ -1,7 +1,7 @@
 use Rattle.std.proofs.Common.{◌≤◌, arith}
 use Rattle.std.proofs.lemmas.List.Sorted.{All-permutation, IsNonDecreasingBy-from_sort}
 use Rattle.effort.specs.Shapes.{BeginOf}
-use Rattle.effort.proofs.Drawing.{still_there}
+use Rattle.effort.proofs.Sorting.{still_there}
 use Rattle.effort.proofs.cases.random_begins.Goals as goal
 
 pub returns : goal.returns

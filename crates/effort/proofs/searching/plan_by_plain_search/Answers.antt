@@ -3,8 +3,8 @@ use Rattle.passes.specs.Nights.{NightOf, passes_of}
 use Rattle.passes.proofs.Checking.{checked_says}
 use Rattle.capacity.proofs.Timing.{in_time_from_checked}
 use Rattle.effort.proofs.Plainly.{Answered, some_found, best_found}
-use Rattle.effort.proofs.searching.searched.Goals as goal
-use Rattle.effort.proofs.searching.searched.Goals.{After-gain_most}
+use Rattle.effort.proofs.searching.plan_by_plain_search.Goals as goal
+use Rattle.effort.proofs.searching.plan_by_plain_search.Goals.{After-gain_most}
 
 -- the night is that of the list
 night_read : (c : After-gain_most) → NightOf 4 c.args.case.now.turn c.args.case.now.numbers.items c.unwrap-night.result

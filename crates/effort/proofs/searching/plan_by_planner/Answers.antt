@@ -1,7 +1,7 @@
 use Rattle.std.proofs.Common.{arith, ◌∙◌}
 use Rattle.effort.proofs.Fronts.{ok_if_not_refused, room_taken}
 use Rattle.effort.proofs.Plainly.{best_worth}
-use Rattle.effort.proofs.searching.planned.Goals as goal
+use Rattle.effort.proofs.searching.plan_by_planner.Goals as goal
 
 pub unwrap-requires : goal.unwrap-requires
 unwrap-requires c =
