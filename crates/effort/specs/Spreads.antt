@@ -2,7 +2,7 @@
 use Rattle.std.specs.Prelude.{ℕ, ◌*◌, ◌≤◌, List, length, count_by, nat_le, All, Contains}
 use Rattle.effort.specs.declared.spread.Spread.{Spread}
 
--- both are numbers of the list: half of it is no more than the median, half is no less, and none is more than the largest
+-- median and largest are in the list; half of it is at most the median, half at least that, and all at most the largest
 pub record SpreadOf (xs : List ℕ) (s : Spread) : Type 0 where
   pub median : Contains xs s.median
   pub half_below : length xs ≤ 2 * count_by (λ x. nat_le x s.median) xs
