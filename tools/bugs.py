@@ -2,13 +2,14 @@
 """Plants small bugs in a crate, one at a time, and says how the check refuses each, or that the crate is still proved with it.
 
     python3 tools/bugs.py CRATE [--most N] [--seed S] [--only WORD]    at the top of the repository
+    python3 tools/bugs.py CRATE --edits                                the same of the crate's must-fail edits
 
 It works on a copy and changes nothing here. A bug is one change to one line of code, outside tests, clauses and comments: another operator, number,
 method, field or argument, a condition turned round, or a statement left out. Bugs are drawn at random, one from each function in turn. What a refusal shows
 depends on where its first error stands:
 
     goal     in the code: something that is to hold there can no longer be shown
-    values   in a proof file, with values at which what was to be shown fails
+    tactic   in a proof file, where a tactic no longer shows what it showed, mostly with values at which that fails
     term     in a proof file, where a term written by hand no longer has its goal's type. That alone doesn't tell a false goal from a proof that no
              longer fits, so the tests are run on the code with the bug, unproved: they fail, or they show nothing
 """
@@ -39,6 +40,7 @@ SWAPS = [
 ]
 HEAD = r"^\s*(?:pub(?:\(crate\))?\s+)?(?:const\s+)?fn\s+([a-z_0-9]+)"
 NOT_CODE = ("//", "ghost", "use ", "requires", "ensures", "#", "pub ", "fn ", "mod ", "impl", "struct", "enum", "trait", "type", "where", "const ")
+# Of a must-fail edit the function is its name, and old and new are the lines that it changes and puts.
 Bug = collections.namedtuple("Bug", "path row function old new")
 
 
@@ -100,6 +102,20 @@ def drawn(bugs, most, seed):
     return taken
 
 
+def edits_of(crate):
+    """The crate's must-fail edits that change one line."""
+    for path in sorted(glob.glob(f"crates/{crate}/must-fail/*.edit")):
+        with open(path, encoding="utf-8") as file:
+            lines = [line.split(": ", 1) for line in file.read().split("\n") if ": " in line]
+        said = collections.defaultdict(list)
+        for word, text in lines:
+            said[word].append(text)
+        if len(said["old"]) == 1:
+            yield Bug(f"crates/{crate}/{said['file'][0]}", 0, os.path.basename(path)[: -len(".edit")], said["old"][0], said["new"][0])
+        else:
+            print(f"{path} changes more than one line and is left out")
+
+
 def tests_fail(copy, bug):
     """Whether a test fails on the code with the bug, unproved."""
     path = os.path.join(copy, bug.path)
@@ -125,7 +141,7 @@ def kind_of(said):
         return "term"
     if "proofs/" not in said:
         return "goal"
-    return "values" if re.search(r"omega|grind|fails (at|for)|counter", said) else "term"
+    return "tactic" if re.search(r"`(omega|grind|search)`", said) else "term"
 
 
 def main():
@@ -134,9 +150,10 @@ def main():
     ap.add_argument("--most", type=int, default=40)
     ap.add_argument("--seed", type=int, default=1)
     ap.add_argument("--only", default="")
+    ap.add_argument("--edits", action="store_true")
     args = ap.parse_args()
-    every = list(bugs_of(args.crate, args.only))
-    taken = drawn(every, args.most, args.seed)
+    every = list(edits_of(args.crate) if args.edits else bugs_of(args.crate, args.only))
+    taken = every if args.edits else drawn(every, args.most, args.seed)
     work = tempfile.mkdtemp(prefix="bugs-")
     copy = os.path.join(work, "repository")
     shutil.copytree(".", copy, symlinks=True, ignore=shutil.ignore_patterns("must-fail", ".git"))
