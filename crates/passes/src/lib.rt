@@ -186,6 +186,24 @@ mod tests {
         Ok(())
     }
 
+    // How many dishes a night has that is read for a room of this length, how long they take to turn, and how many passes there are.
+    fn read_for_room(dishes: u64, turn: u64, room: usize) -> Result<(u8, u32, usize), Refusal> {
+        let night = Night::read_for_room(dishes, turn, &FIVE, room)?;
+        Ok((
+            night.station().dishes,
+            night.station().turn,
+            night.passes().len(),
+        ))
+    }
+
+    #[test]
+    fn rooms(rt: HostRuntime) {
+        assert_eq!(rt; read_for_room(2, 3, 5), Ok((2, 3, 5)));
+        assert_eq!(rt; read_for_room(2, 3, 4), Err(Refusal::BadRoom(4)));
+        assert_eq!(rt; read_for_room(5, 3, 4), Err(Refusal::BadDishes));
+        assert_eq!(rt; read_for_room(2, 100_001, 4), Err(Refusal::BadTurning));
+    }
+
     #[test]
     fn numbers_and_places(rt: HostRuntime) {
         let table = [
