@@ -1,8 +1,7 @@
--- What the judge says of a night that was planned.
-use Rattle.std.proofs.Common.{◌≡◌, ℕ, Bool, true, false, List, length, Ok, Err, Result, IfOk, refl, sym, ap, ◌∙◌, arith}
+-- What the judge says of a night that was planned. Assumes nothing.
+use Rattle.std.proofs.Common.{◌≡◌, ℕ, List, length, Ok, Err, Result, IfOk, sym, ap, ◌∙◌, arith}
 use Rattle.std.specs.Result.{result_err}
 use Rattle.std.proofs.lemmas.Bool.Decides.{nat_tests}
-use Rattle.passes.specs.declared.judging.Flaw.{Flaw}
 use Rattle.passes.specs.declared.nights.Night.{Night}
 use Rattle.passes.specs.declared.refusals.Refusal.{Refusal}
 use Rattle.passes.specs.Nights.{passes_of}
@@ -10,10 +9,12 @@ use Rattle.passes.specs.Refusals.{room_refused}
 use Rattle.passes.specs.Verdicts.{Verdict, TrueVerdict}
 use Rattle.text.specs.declared.planned.Planned.{Planned}
 
+-- the judge finds the plan good, and worth so much
 abbrev pub answered : ℕ → Result Verdict Refusal
 answered worth = Ok (Ok worth)
 
-pub judged_good : (p : Planned) (r : Result Verdict Refusal) → result_err r ≡ room_refused (length (passes_of p.night.night)) (length p.plan.items)
+-- the judge answers what the plan of a planned night is worth
+judged_good : (p : Planned) (r : Result Verdict Refusal) → result_err r ≡ room_refused (length (passes_of p.night.night)) (length p.plan.items)
     → IfOk r (TrueVerdict p.night.night.station (passes_of p.night.night) p.plan.items) → r ≡ answered p.worth
 unfolding room_refused
 judged_good p (Ok (Ok worth)) room verdict = ap answered (verdict.1 ∙ sym p.sum)

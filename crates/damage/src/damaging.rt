@@ -1,5 +1,5 @@
 // Texts that are damaged at random.
-ghost use Rattle.std.specs.Prelude.{◌≡◌, ◌≤◌, ℕ, map, IfOk, vec_len};
+ghost use Rattle.std.specs.Prelude.{◌≡◌, ◌≢◌, ◌<◌, ◌≤◌, ◌^◌, ℕ, bit_xor, map, IfOk, vec_len};
 ghost use Rattle.damage.specs.Damages.{Flipped, joined, Cut, Doubled, Swapped, DamagedOnce, DamagedTimes};
 ghost use Rattle.text.specs.Words.{lines_of};
 
@@ -42,16 +42,26 @@ fn damaged_once<R: Rng>(alloc: Global, text: &[u8], rng: &mut R) -> Result<Vec<u
     }
 }
 
-// The text with one bit of one byte flipped, if it has any.
+// The text with one bit of one byte flipped, if it has a byte.
 fn flipped<R: Rng>(alloc: Global, text: &[u8], rng: &mut R) -> Result<Vec<u8>, AllocError>
     ensures { IfOk result (λ t. Flipped text.now t.items) }
 {
     let mut text = Vec::from_slice(alloc, text)?;
     if !text.is_empty() {
         let at = rng.random_range(0..text.len());
-        text[at] ^= 1 << rng.random_range(0..8u32);
+        let bit = rng.random_range(0..8u32);
+        text[at] = with_bit_flipped(text[at], bit);
     }
     Ok(text)
+}
+
+// A byte with one of its bits flipped.
+#[tactic(auto, using(std::proofs::lemmas::Nat::one_shl))]
+fn with_bit_flipped(byte: u8, bit: u32) -> u8
+    requires { bit < 8 }
+    ensures { result ≡ bit_xor byte (2 ^ bit) }
+{
+    byte ^ (1 << bit)
 }
 
 // The text without one of its lines.
@@ -75,15 +85,31 @@ fn doubled<R: Rng>(alloc: Global, text: &[u8], rng: &mut R) -> Result<Vec<u8>, A
     joined(alloc, &lines)
 }
 
-// The text with two of its lines in each other's place.
+// The text with two of its lines in each other's place, if it has two.
 fn swapped<R: Rng>(alloc: Global, text: &[u8], rng: &mut R) -> Result<Vec<u8>, AllocError>
     ensures { IfOk result (λ t. Swapped text.now t.items) }
 {
     let mut lines = lines_of(alloc, text)?;
     let one = rng.random_range(0..lines.len());
-    let other = rng.random_range(0..lines.len());
+    let other = another_place(one, lines.len(), rng);
     lines.swap(one, other);
     joined(alloc, &lines)
+}
+
+// A place other than this one, if there is one among so many.
+fn another_place<R: Rng>(place: usize, places: usize, rng: &mut R) -> usize
+    requires { place < places }
+    ensures within { result < places }
+    ensures another { 1 < places → result ≢ place }
+{
+    let drawn = rng.random_range(0..places);
+    if drawn != place {
+        drawn
+    } else if place + 1 < places {
+        place + 1
+    } else {
+        0
+    }
 }
 
 // What stands before, between and behind the line feeds.
