@@ -1,16 +1,10 @@
--- Text that a loop writes piece by piece.
-use Rattle.std.proofs.Common.{◌≡◌, ℕ, zero, suc, ◌+◌, List, [], ◌∷◌, ◌++◌, map, refl, ap, append_assoc, arith}
+-- Text that a loop writes piece by piece. Assumes nothing.
+use Rattle.std.proofs.Common.{◌≡◌, ℕ, ◌+◌, List, [], ◌∷◌, ◌++◌, map, append_assoc, arith}
 use Rattle.std.proofs.lemmas.List.{append-nil}
 use Rattle.std.proofs.lemmas.List.Concat.{flat_map-append}
 use Rattle.std.proofs.lemmas.List.FromFn.{map-range_with_len_more}
 use Rattle.std.specs.List.{flat_map, range_with_len}
-
-range_more : (a n j : ℕ) → a + n ≡ j → range_with_len a (n + 1) ≡ range_with_len a n ++ j ∷ []
-range_more a zero j e = let same : a ≡ j = omega arith in rw same refl
-range_more a (suc n) j e =
-    let n1 : suc n + 1 ≡ suc (n + 1) = omega arith in
-    let later : (a + 1) + n ≡ j = omega arith in
-    rw n1 (ap (λ (xs : List ℕ). a ∷ xs) (range_more (a + 1) n j later))
+use Rattle.text.proofs.Ends.{range_more}
 
 -- a piece for one more element
 pub one_more :

@@ -86,7 +86,7 @@ label_short names w p named ok =
 labels_short :
     (names ws : List (List ℕ)) (ps : List Pass) → are_names ws ≡ true → all_in_range ps ≡ true →
     (i : ℕ) → length (slice_index_or (map (λ x. label_of names x.0 x.1) (zip ws ps)) i []) ≤ 39
-unfolding are_names all_in_range
+unfolding all_in_range
 labels_short names [] ps named ok i = omega arith
 labels_short names (w ∷ ws) [] named ok i = omega arith
 labels_short names (w ∷ ws) (p ∷ ps) named ok zero = label_short names w p (and_parts (is_name w) _ named).0 (and_parts (in_range p) _ ok).0

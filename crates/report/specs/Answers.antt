@@ -15,7 +15,7 @@ use Rattle.text.specs.declared.faults.TurnedAway.{TurnedAway}
 use Rattle.text.specs.declared.planned.Planned.{Planned}
 use Rattle.text.specs.Lists.{list_of}
 use Rattle.text.specs.Messages.{refusal_line}
-use Rattle.text.specs.Plans.{plan_text}
+use Rattle.text.specs.PlanText.{plan_text}
 use Rattle.text.specs.Reading.{read_text}
 
 -- the bytes are a timeline: there is a row for the lane of each pass, its letter stands in that row alone, and the lines fit

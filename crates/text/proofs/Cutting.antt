@@ -1,4 +1,4 @@
--- A text is cut at its line feeds into the lines that it was made of, and a line into its words.
+-- A text is cut at its line feeds into the lines that it was made of, and a line into its words. Assumes nothing.
 use Rattle.std.proofs.Common.{◌≡◌, ℕ, ◌<◌, Bool, true, false, leb, cond, not, ◌&&◌, List, [], ◌∷◌, ◌++◌, length, map, eqb, refl, ap, ◌∙◌, append_assoc, append-nil, arith, All}
 use Rattle.std.specs.Prelude.{filter, codes}
 use Rattle.std.specs.List.{flat_map, slice_split, AllByRecursion}
@@ -8,12 +8,13 @@ use Rattle.std.proofs.lemmas.List.Splits.{slice_split_none, slice_split_at}
 use Rattle.text.specs.Words.{ends_line, is_blank, lines_of, words_of}
 use Rattle.text.specs.Writing.{spaced, line}
 
--- no byte ends a line
-abbrev pub OneLine : List ℕ → Type 0
-OneLine bs = All (λ b. ends_line b ≡ false) bs
-
-abbrev pub in_line : ℕ → Type 0
+-- a byte that ends no line
+abbrev in_line : ℕ → Type 0
 in_line b = ends_line b ≡ false
+
+-- no byte ends a line
+abbrev OneLine : List ℕ → Type 0
+OneLine bs = All in_line bs
 
 -- a byte that separates neither words nor lines
 unfoldable pub plain : ℕ → Bool

@@ -1,7 +1,7 @@
--- The passes that are read, as the definitions see them.
+-- The passes that are read, as the definitions see them. Assumes nothing.
 use Rattle.std.proofs.Common.{◌≡◌, ℕ, ◌<◌, List, [], ◌∷◌, length, get_or, map, String, Vec, string_bytes, vec_items, Ok, Err, Result, IfOk, refl, ap, ◌∙◌}
 use Rattle.std.proofs.lemmas.List.{get_or-map, length-map}
-use Rattle.text.specs.declared.drafts.Entry.{Entry}
+use Rattle.text.specs.declared.draft.Entry.{Entry}
 use Rattle.text.specs.Drafts as plain
 use Rattle.text.specs.Reading.{names_in}
 use Rattle.text.specs.Views.{entry_of}

@@ -1,4 +1,4 @@
--- The line that is named is the first that can't be read.
+-- The line that is named is the first that can't be read. Assumes nothing.
 use Rattle.std.proofs.Common.{◌≡◌, Bool, true, false, cond, ℕ, zero, suc, ◌+◌, ◌<◌, ◌⊎◌, inl, inr, List, [], ◌∷◌, length, take, get_or, Some, None, Option, Ok, Err, Result, refl, sym, ap, subst, ◌∙◌, arith}
 use Rattle.std.specs.Prelude.{option_map}
 use Rattle.passes.specs.declared.refusals.Refusal.{Refusal}
@@ -6,7 +6,7 @@ use Rattle.passes.specs.declared.refusals.Refusal.TheVariants.{BadDishes, BadTur
 use Rattle.passes.specs.Checks.{dishes_ok, turning_ok}
 use Rattle.passes.specs.Numbers.{first_fault}
 use Rattle.passes.specs.Refusals.{or_else, station_refused, list_refused, refused}
-use Rattle.text.specs.declared.drafts.StationLine.{StationLine}
+use Rattle.text.specs.declared.draft.StationLine.{StationLine}
 use Rattle.text.specs.declared.faults.BadLine.{BadLine}
 use Rattle.text.specs.declared.faults.LineFault.{LineFault}
 use Rattle.text.specs.declared.faults.LineFault.TheVariants.{NoStation}
@@ -14,7 +14,8 @@ use Rattle.text.specs.declared.faults.ListRule.{ListRule}
 use Rattle.text.specs.declared.faults.TurnedAway.{TurnedAway}
 use Rattle.text.specs.declared.faults.TurnedAway.TheVariants.{Unreadable, Refused}
 use Rattle.text.specs.Drafts.{Draft, Entry, empty, at_line, with_line, with_lines, draft_of}
-use Rattle.text.specs.Reading.{numbers_of, line_about, rule_about, last_line, taken_with, taken, read_text}
+use Rattle.text.specs.Blame.{line_about, rule_about}
+use Rattle.text.specs.Reading.{numbers_of, last_line, taken_with, taken, read_text}
 use Rattle.text.specs.Statements.{StopsAt, HasNoStation, FirstAtFault, UnreadableFirst, RefusedFor, RefusedForWhatItSays, NoRoom}
 use Rattle.text.specs.Words.{lines_of}
 
@@ -27,13 +28,14 @@ record StopsWith (i : ℕ) (d : Draft) (ls : List (List ℕ)) (bad : BadLine) : 
   read : with_lines i d (take k ls) ≡ Ok before
   unread : with_line (i + k) before (get_or ls k []) ≡ Err bad.fault
 
-abbrev turned : {A : Type 0} → TurnedAway → Result A TurnedAway
+-- a text is turned away with this
+abbrev pub turned : {A : Type 0} → TurnedAway → Result A TurnedAway
 turned t = Err t
 
 same_bad : {A : Type 0} (b c : BadLine) → turned {A = A} (Unreadable b) ≡ Err (Unreadable c) → b ≡ c
 same_bad b c e = cc
 
-away_for : {A : Type 0} (t u : TurnedAway) → turned {A = A} t ≡ Err u → t ≡ u
+pub away_for : {A : Type 0} (t u : TurnedAway) → turned {A = A} t ≡ Err u → t ≡ u
 away_for t u e = cc
 
 here : (i : ℕ) (d : Draft) (l : List ℕ) (ls : List (List ℕ)) (bad : BadLine) (fault : LineFault) → with_line i d l ≡ Err fault → with_lines i d (l ∷ ls) ≡ Err (Unreadable bad) → StopsWith i d (l ∷ ls) bad
@@ -150,60 +152,3 @@ module _ (j : ℕ) (e : Draft) (fault : LineFault) where
 pub unreadable_first : UnreadableFirst
 unfolding read_text draft_of
 unreadable_first text i fault stop = rw (stops_there i stop.before fault 0 empty (lines_of text) i (omega arith) stop.within stop.read stop.unread) refl
-
-same_refusal : {A : Type 0} (a b : Refusal) (x y : ℕ) (r t : ListRule) → turned {A = A} (Refused a x r) ≡ Err (Refused b y t) → (a ≡ b) × (x ≡ y) × (r ≡ t)
-same_refusal a b x y r t e = (cc, cc, cc)
-
--- what a list with a station is refused for
-refused_with : (s : StationLine) (es : List Entry) (why : Refusal) (line : ℕ) (rule : ListRule) → taken_with s es ≡ Err (Refused why line rule)
-    → (refused s.dishes s.turn (numbers_of es) ≡ Some why) × (line ≡ line_about s es why) × (rule ≡ rule_about es why)
-unfolding taken_with
-refused_with s es why line rule e = by_refusal (refused s.dishes s.turn (numbers_of es)) refl
-  where
-    by_refusal : (o : Option Refusal) → refused s.dishes s.turn (numbers_of es) ≡ o → (refused s.dishes s.turn (numbers_of es) ≡ Some why) × (line ≡ line_about s es why) × (rule ≡ rule_about es why)
-    by_refusal None is = let f = rw is at e in absurd cc
-    by_refusal (Some other) is =
-        let same = same_refusal other why (line_about s es other) line (rule_about es other) rule (rw is at e) in
-        (is ∙ ap Some same.0, sym same.1 ∙ ap (line_about s es) same.0, sym same.2 ∙ ap (rule_about es) same.0)
-
--- lines are not refused for what they say
-only_unreadable : (i : ℕ) (d : Draft) (ls : List (List ℕ)) (why : Refusal) (line : ℕ) (rule : ListRule) → with_lines i d ls ≡ Err (Refused why line rule) → ⊥
-unfolding with_lines at_line
-only_unreadable i d [] why line rule e = absurd cc
-only_unreadable i d (l ∷ ls) why line rule e = by_line (with_line i d l) refl (λ next. only_unreadable (i + 1) next ls why line rule)
-  where
-    by_line : (r : Result Draft LineFault) → with_line i d l ≡ r → ((next : Draft) → with_lines (i + 1) next ls ≡ Err (Refused why line rule) → ⊥) → ⊥
-    by_line (Err fault) is rest = let f = rw is at e in absurd cc
-    by_line (Ok next) is rest = rest next (rw is at e)
-
-with_all_read : (text : List ℕ) (d : Draft) (why : Refusal) (line : ℕ) (rule : ListRule) → draft_of text ≡ Ok d → taken (last_line text) d ≡ Err (Refused why line rule) → RefusedFor text why line rule
-unfolding taken
-with_all_read text d why line rule is e = by_station d.station refl
-  where
-    by_station : (o : Option StationLine) → d.station ≡ o → RefusedFor text why line rule
-    by_station None none = let f = rw none at e in absurd cc
-    by_station (Some s) some =
-        let for_this = refused_with s d.entries why line rule (rw some at e) in
-        record { all = d; station = s; read = is; says = some; applies = for_this.0; at = for_this.1; about = for_this.2 }
-
-pub refused_for_what_it_says : RefusedForWhatItSays
-unfolding read_text draft_of
-refused_for_what_it_says text why line rule e = by_draft (draft_of text) refl
-  where
-    by_draft : (r : Result Draft TurnedAway) → draft_of text ≡ r → RefusedFor text why line rule
-    by_draft (Ok d) is = with_all_read text d why line rule is (rw is at e)
-    by_draft (Err t) is = absurd (only_unreadable 0 empty (lines_of text) why line rule (is ∙ ap turned (away_for t (Refused why line rule) (rw is at e))))
-
--- of the refusals that are looked at none is for a room
-no_room_of : (a b : Bool) (o : Option ℕ) (n : ℕ) → or_else (cond a (cond b None (Some BadTurning)) (Some BadDishes)) (option_map BadPass o) ≡ Some (BadRoom n) → ⊥
-no_room_of true true None n e = absurd cc
-no_room_of true true (Some i) n e = absurd cc
-no_room_of true false o n e = absurd cc
-no_room_of false b o n e = absurd cc
-
-no_room_refused : (k t n : ℕ) (xs : List ℕ) → refused k t xs ≡ Some (BadRoom n) → ⊥
-unfolding refused station_refused list_refused
-no_room_refused k t n xs e = no_room_of (dishes_ok k) (turning_ok t) (first_fault xs) n e
-
-pub no_room : NoRoom
-no_room text n line rule e = let found = refused_for_what_it_says text (BadRoom n) line rule e in no_room_refused found.station.dishes found.station.turn n (numbers_of found.all.entries) found.applies

@@ -1,7 +1,8 @@
-pub mod Naming
 pub mod Planning
 pub mod Showing
-pub mod Telling
+pub mod Ends
+pub mod Marked
+pub mod PlanLines
 pub mod Numbers
 pub mod Marks
 pub mod LineByLine
@@ -12,4 +13,5 @@ pub mod Cutting
 pub mod RoundTrip
 pub mod Spelled
 pub mod FirstFault
+pub mod Refusing
 pub mod Rules

@@ -1,4 +1,4 @@
--- Lines that are read one after the other.
+-- Lines that are read one after the other. Assumes nothing.
 use Rattle.std.proofs.Common.{◌≡◌, ℕ, ◌+◌, ◌<◌, ◌≤◌, List, ◌∷◌, length, get_or, drop, map, Bor, Ok, Result, refl, ◌∙◌}
 use Rattle.std.proofs.lemmas.List.{at_drop_more, at_drop_all}
 use Rattle.text.specs.declared.faults.ReadError.{ReadError}

@@ -1,4 +1,4 @@
--- Words that are names.
+-- Words that are names. Assumes nothing.
 use Rattle.std.proofs.Common.{◌≡◌, ℕ, zero, suc, ◌<◌, true, false, List, [], ◌∷◌, Bor, Ok, Err, Result, MatchResult, IfOk, refl, arith}
 use Rattle.std.specs.Prelude.{IsUtf8, IsAscii}
 use Rattle.std.proofs.lemmas.Bool.Decides.{nat_tests}
@@ -14,7 +14,6 @@ unfolding is_name_byte
 ascii_byte b h = grind (arith, nat_tests)
 
 ascii_bytes : (w : List ℕ) → all_name_bytes w ≡ true → IsAscii w
-unfolding all_name_bytes
 ascii_bytes [] h i = omega arith
 ascii_bytes (b ∷ bs) h zero = ascii_byte b (grind (arith, nat_tests))
 ascii_bytes (b ∷ bs) h (suc i) = ascii_bytes bs (grind (arith, nat_tests)) i

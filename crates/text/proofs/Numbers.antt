@@ -1,9 +1,10 @@
--- Words that are numbers.
-use Rattle.std.proofs.Common.{◌≡◌, ℕ, zero, suc, ◌^◌, ◌<◌, Bool, true, false, List, [], ◌∷◌, length, get_or, Ok, Err, Result, refl, sym, ap, ◌∙◌, ◌≢◌, arith, rules, MatchResult}
-use Rattle.std.specs.Prelude.{IsUtf8, IsAscii}
+-- Words that are numbers. Assumes nothing.
+use Rattle.std.proofs.Common.{◌≡◌, ℕ, ◌^◌, ◌<◌, Bool, true, false, List, [], ◌∷◌, length, get_or, Ok, Err, Result, refl, sym, ap, ◌∙◌, ◌≢◌, arith, rules, MatchResult}
+use Rattle.std.specs.Prelude.{IsUtf8}
 use Rattle.std.specs.Str.{all_ascii_digits}
 use Rattle.std.specs.Str.Parse.{ParsesUnsigned}
 use Rattle.std.proofs.lemmas.Bool.Decides.{nat_tests}
+use Rattle.std.proofs.lemmas.Fmt.{IsAscii-from_digits}
 use Rattle.std.proofs.lemmas.Result.{OkIff-at_ok, OkIff-at_err}
 use Rattle.std.proofs.lemmas.Str.{IsUtf8-from_ascii}
 use Rattle.std.proofs.lemmas.Str.Parse.{IsNumeralModel, numerals_by_fold, parse_plain}
@@ -15,11 +16,6 @@ use Rattle.text.specs.Words.{read_on, number_at}
 pub own : IsNumeralModel (λ ds. all_ascii_digits ds ≡ true) (read_on 0)
 unfolding read_on
 own = numerals_by_fold _ (search rules) read_on (search rules)
-
-digits_ascii : (w : List ℕ) → all_ascii_digits w ≡ true → IsAscii w
-digits_ascii [] d i = omega arith
-digits_ascii (b ∷ bs) d zero = grind (arith, nat_tests)
-digits_ascii (b ∷ bs) d (suc i) = digits_ascii bs (grind (arith, nat_tests)) i
 
 first_digit : (w : List ℕ) → all_ascii_digits w ≡ true → get_or w 0 0 ≡ 43 → ⊥
 first_digit [] d e = omega (arith, e)
@@ -39,7 +35,7 @@ unfolding number_at
 is_number w d some fits = grind (arith, nat_tests)
 
 pub not_text : (w : List ℕ) → ¬ (IsUtf8 w) → number_at w ≡ Err BadNumber
-not_text w not = no_number w (λ d _ _. not (IsUtf8-from_ascii w (digits_ascii w d)))
+not_text w not = no_number w (λ d _ _. not (IsUtf8-from_ascii w (IsAscii-from_digits w (own.to w d))))
 
 pub signed : (w : List ℕ) → get_or w 0 0 ≡ 43 → number_at w ≡ Err BadNumber
 signed w plus = no_number w (λ d _ _. first_digit w d plus)

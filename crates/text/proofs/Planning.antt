@@ -1,3 +1,4 @@
+-- A room with a number for each pass is not refused. Assumes nothing.
 use Rattle.std.proofs.Common.{◌≡◌, ℕ, Ok, Err, Result, arith, rules}
 use Rattle.std.specs.Result.{result_err, IsOk}
 use Rattle.std.proofs.lemmas.Bool.Decides.{nat_tests}

@@ -1,4 +1,4 @@
--- What is written of a list reads as that list.
+-- What is written of a list reads as that list. Assumes nothing.
 use Rattle.std.proofs.Common.{◌≡◌, ℕ, ◌+◌, ◌*◌, ◌^◌, ◌<◌, ◌≤◌, true, false, ltb, List, [], ◌∷◌, ◌++◌, length, map, string_bytes, Some, None, Ok, Result, refl, sym, ap, ◌∙◌, append_assoc, append-nil, arith}
 use Rattle.std.specs.List.{zip}
 use Rattle.std.proofs.lemmas.Bool.Decides.{nat_tests}
@@ -9,7 +9,7 @@ use Rattle.passes.specs.Nights.{passes_of}
 use Rattle.passes.specs.Numbers.{passes_in}
 use Rattle.passes.specs.Refusals.{refused}
 use Rattle.passes.proofs.Taking.{taken_if_checked}
-use Rattle.text.specs.declared.drafts.StationLine.{StationLine}
+use Rattle.text.specs.declared.draft.StationLine.{StationLine}
 use Rattle.text.specs.declared.faults.TurnedAway.{TurnedAway}
 use Rattle.text.specs.declared.nights.NamedNight.{NamedNight}
 use Rattle.text.specs.Drafts.{Draft, Entry, empty, at_line, with_said, with_line, with_lines, draft_of}
@@ -21,7 +21,7 @@ use Rattle.text.specs.Statements.{Listed, RoundTrip}
 use Rattle.text.specs.Writing.{station_words, pass_words, spaced, lines, written}
 use Rattle.text.proofs.Cutting.{all_words, all_lines, words_back, lines_back}
 use Rattle.text.proofs.Spelled.{said_of, station_back, pass_back, station_plain, pass_plain, station_short, pass_short}
-use Rattle.text.proofs.TakingLists.{accepted}
+use Rattle.text.proofs.TakingLists.{fours, accepted}
 
 -- a line made of words is read as what they say
 line_back : (i : ℕ) (d : Draft) (ws : List (List ℕ)) → all_words ws ≡ true → length (spaced ws) ≤ 1000 → with_line i d (spaced ws) ≡ (said_by ws >>= with_said i d)
@@ -52,7 +52,7 @@ unfolding in_range
 small p h = record { from = grind (arith, nat_tests); to = grind (arith, nat_tests); worth = grind (arith, nat_tests); marks = grind (arith, nat_tests) }
 
 passes_plain : (ns : List (List ℕ)) (ps : List Pass) → are_names ns ≡ true → all_in_range ps ≡ true → all_lines (pass_lines ns ps) ≡ true
-unfolding pass_lines are_names all_in_range all_lines
+unfolding pass_lines all_in_range all_lines
 passes_plain [] ps named ranged = refl
 passes_plain (n ∷ ns) [] named ranged = refl
 passes_plain (n ∷ ns) (p ∷ ps) named ranged =
@@ -80,7 +80,7 @@ module _ (i : ℕ) (s : StationLine) (es : List Entry) where
 
 passes_read : (i : ℕ) (s : StationLine) (es : List Entry) (ns : List (List ℕ)) (ps : List Pass) → are_names ns ≡ true → all_in_range ps ≡ true
     → with_lines i (record { station = Some s; entries = es }) (map spaced (pass_lines ns ps) ++ ([] ∷ [])) ≡ read_so_far s (es ++ entries_from i ns ps)
-unfolding pass_lines entries_from are_names all_in_range with_lines
+unfolding pass_lines entries_from all_in_range with_lines
 passes_read i s es [] ps named ranged = rw (ended i s es, append-nil es) refl
 passes_read i s es (n ∷ ns) [] named ranged = rw (ended i s es, append-nil es) refl
 passes_read i s es (n ∷ ns) (p ∷ ps) named ranged =
@@ -89,26 +89,23 @@ passes_read i s es (n ∷ ns) (p ∷ ps) named ranged =
     (passes_read (i + 1) s (es ++ (e ∷ [])) ns ps (grind (arith, nat_tests)) (grind (arith, nat_tests)) ∙ ap (read_so_far s) (append_assoc es (e ∷ []) (entries_from (i + 1) ns ps)))
 
 -- what the passes are, once they are read
-module _ where
-  names_back : (i : ℕ) (ns : List (List ℕ)) (ps : List Pass) → length ns ≡ length ps → names_in (entries_from i ns ps) ≡ ns
-  unfolding entries_from
-  names_back i [] ps same = refl
-  names_back i (n ∷ ns) [] same = absurd (omega (arith, same))
-  names_back i (n ∷ ns) (p ∷ ps) same = ap (λ ws. n ∷ ws) (names_back (i + 1) ns ps (omega (arith, same)))
+names_back : (i : ℕ) (ns : List (List ℕ)) (ps : List Pass) → length ns ≡ length ps → names_in (entries_from i ns ps) ≡ ns
+unfolding entries_from
+names_back i [] ps same = refl
+names_back i (n ∷ ns) [] same = absurd (omega (arith, same))
+names_back i (n ∷ ns) (p ∷ ps) same = ap (λ ws. n ∷ ws) (names_back (i + 1) ns ps (omega (arith, same)))
 
-  passes_back : (i : ℕ) (ns : List (List ℕ)) (ps : List Pass) → length ns ≡ length ps → passes_in (numbers_of (entries_from i ns ps)) ≡ ps
-  unfolding entries_from passes_in
-  passes_back i [] [] same = refl
-  passes_back i [] (p ∷ ps) same = absurd (omega (arith, same))
-  passes_back i (n ∷ ns) [] same = absurd (omega (arith, same))
-  passes_back i (n ∷ ns) (p ∷ ps) same = ap (λ qs. p ∷ qs) (passes_back (i + 1) ns ps (omega (arith, same)))
+passes_back : (i : ℕ) (ns : List (List ℕ)) (ps : List Pass) → length ns ≡ length ps → passes_in (numbers_of (entries_from i ns ps)) ≡ ps
+unfolding entries_from passes_in
+passes_back i [] [] same = refl
+passes_back i [] (p ∷ ps) same = absurd (omega (arith, same))
+passes_back i (n ∷ ns) [] same = absurd (omega (arith, same))
+passes_back i (n ∷ ns) (p ∷ ps) same = ap (λ qs. p ∷ qs) (passes_back (i + 1) ns ps (omega (arith, same)))
 
-  fours_back : (i : ℕ) (ns : List (List ℕ)) (ps : List Pass) → length ns ≡ length ps → length (numbers_of (entries_from i ns ps)) ≡ 4 * length ps
-  unfolding entries_from
-  fours_back i [] [] same = refl
-  fours_back i [] (p ∷ ps) same = absurd (omega (arith, same))
-  fours_back i (n ∷ ns) [] same = absurd (omega (arith, same))
-  fours_back i (n ∷ ns) (p ∷ ps) same = omega (arith, fours_back (i + 1) ns ps (omega (arith, same)))
+fours_back : (i : ℕ) (ns : List (List ℕ)) (ps : List Pass) → length ns ≡ length ps → length (numbers_of (entries_from i ns ps)) ≡ 4 * length ps
+fours_back i ns ps same =
+    let es = entries_from i ns ps in
+    omega (arith, fours es, length-map es (λ e. e.pass.name), ap length (names_back i ns ps same), same)
 
 -- what is asked of a list that may be taken
 record Facts (l : NamedList) : Type 0 where

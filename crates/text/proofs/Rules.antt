@@ -1,18 +1,21 @@
--- The rule that is named is one that the pass breaks.
-use Rattle.std.proofs.Common.{◌≡◌, ℕ, zero, suc, ◌+◌, ◌-◌, ◌*◌, ◌<◌, ◌≤◌, Bool, true, false, cond, leb, ltb, List, [], ◌∷◌, length, Some, None, Option, MatchOption, refl, sym, ap, subst, ◌∙◌, arith}
+-- The rule that is named is one that the pass breaks. Assumes nothing.
+use Rattle.std.proofs.Common.{◌≡◌, ℕ, zero, suc, ◌+◌, ◌-◌, ◌*◌, ◌<◌, ◌≤◌, Bool, true, false, cond, leb, ltb, List, [], ◌∷◌, length, Some, None, Option, refl, sym, ap, subst, ◌∙◌, arith}
 use Rattle.std.specs.Prelude.{option_map, slice_index}
 use Rattle.std.proofs.lemmas.Bool.Decides.{nat_tests}
+use Rattle.std.proofs.lemmas.Option.{MatchOption-at_some}
 use Rattle.passes.specs.declared.refusals.Refusal.TheVariants.{BadDishes, BadTurning, BadPass}
 use Rattle.passes.specs.Checks.{dishes_ok, turning_ok, in_range}
 use Rattle.passes.specs.Numbers.{begun, in_order, sound, first_fault}
 use Rattle.passes.specs.Refusals.{or_else, station_refused, list_refused, refused}
 use Rattle.passes.proofs.Taking.{place_is_first}
 use Rattle.text.specs.declared.faults.ListRule.TheVariants.{Count, Span, End, Worth, Marks, Order}
-use Rattle.text.specs.declared.said.Numbers.{Numbers}
+use Rattle.text.specs.declared.line.Numbers.{Numbers}
 use Rattle.text.specs.Drafts.{Entry}
-use Rattle.text.specs.Reading.{numbers_of, numbers_at, rule_of_pass, rule_about}
+use Rattle.text.specs.Blame.{rule_of_pass, numbers_at, rule_about}
+use Rattle.text.specs.Reading.{numbers_of}
 use Rattle.text.specs.Statements.{Breaks, RuleIsBroken}
-use Rattle.text.proofs.FirstFault.{refused_for_what_it_says}
+use Rattle.text.proofs.Refusing.{refused_for_what_it_says}
+use Rattle.text.proofs.TakingLists.{fours}
 
 -- the refusal that is for a pass is for the first at fault
 pass_of : (a b : Bool) (o : Option ℕ) (i : ℕ) → or_else (cond a (cond b None (Some BadTurning)) (Some BadDishes)) (option_map BadPass o) ≡ Some (BadPass i) → o ≡ Some i
@@ -21,14 +24,12 @@ pass_of true true (Some j) i e = cc
 pass_of true false o i e = absurd cc
 pass_of false b o i e = absurd cc
 
-first_at_fault : (k t i : ℕ) (xs : List ℕ) → refused k t xs ≡ Some (BadPass i) → first_fault xs ≡ Some i
+fault_of_pass : (k t i : ℕ) (xs : List ℕ) → refused k t xs ≡ Some (BadPass i) → first_fault xs ≡ Some i
 unfolding refused station_refused list_refused
-first_at_fault k t i xs e = pass_of (dishes_ok k) (turning_ok t) (first_fault xs) i e
+fault_of_pass k t i xs e = pass_of (dishes_ok k) (turning_ok t) (first_fault xs) i e
 
 unsound : (xs : List ℕ) (i : ℕ) → first_fault xs ≡ Some i → (i < begun xs) × (sound xs i ≡ false)
-unsound xs i e =
-    let first = subst (λ o. MatchOption o ((k : ℕ) → k < begun xs → sound xs k ≡ true) (λ j. (j < begun xs) × (sound xs j ≡ false) × ((k : ℕ) → k < j → sound xs k ≡ true))) e (place_is_first xs) in
-    (first.0, first.1)
+unsound xs i e = let first = MatchOption-at_some _ _ i e (place_is_first xs) in (first.0, first.1)
 
 -- the numbers of pass i stand in fours
 record Stands (xs : List ℕ) (i : ℕ) (p : Numbers) : Type 0 where
@@ -50,10 +51,6 @@ stands (e ∷ es) (suc i) within =
 
     first : 4 * suc i ≡ suc (suc (suc (suc (4 * i))))
     first = omega arith
-
-fours : (es : List Entry) → length (numbers_of es) ≡ 4 * length es
-fours [] = refl
-fours (e ∷ es) = omega (arith, fours es)
 
 -- where the numbers of a pass that is at fault break no rule, it begins before the one before it
 out_of_order : (xs : List ℕ) (i n : ℕ) (p q : Numbers) → sound xs i ≡ false → i < 48 → i < n → length xs ≡ 4 * n → Stands xs i p → slice_index xs (4 * (i - 1)) ≡ q.from
@@ -94,6 +91,6 @@ pub rule_is_broken : RuleIsBroken
 rule_is_broken text i line rule e =
     let found = refused_for_what_it_says text (BadPass i) line rule e in
     let es = found.all.entries in
-    let fault = unsound (numbers_of es) i (first_at_fault found.station.dishes found.station.turn i (numbers_of es) found.applies) in
+    let fault = unsound (numbers_of es) i (fault_of_pass found.station.dishes found.station.turn i (numbers_of es) found.applies) in
     let within : i < length es = omega (arith, fault.0, fours es) in
     (found.all, found.read, within, subst (Breaks es i) (sym found.about) (broken es i within fault.1))

@@ -1,4 +1,4 @@
--- What is written of a number, a name, dishes, a station and a pass is read again.
+-- What is written of a number, a name, dishes, a station and a pass is read again. Assumes nothing.
 use Rattle.std.proofs.Common.{◌≡◌, ℕ, zero, suc, ◌^◌, ◌<◌, ◌≤◌, true, leb, List, [], ◌∷◌, length, Ok, refl, ap, ◌∙◌, arith, length-append}
 use Rattle.std.specs.Prelude.{codes}
 use Rattle.std.specs.Fmt.{decimal, digits}
@@ -25,13 +25,13 @@ pub name_back : (w : List ℕ) → is_name w ≡ true → name_at w ≡ Ok w
 unfolding name_at
 name_back w named = rw named refl
 
--- of the sixteen marks each
 -- the words of dishes are read as these marks, and are words, and are few
 pub record Marked (ws : List (List ℕ)) (m : ℕ) : Type 0 where
   pub read : marks_from 0 ws ≡ Ok m
   pub plain_words : all_words ws ≡ true
   pub short : leb (length (behind ws)) 8 ≡ true
 
+-- each of the sixteen sets of marks is
 sixteen : (f t w m : ℕ) → m ≤ 15 → Marked (dish_words (record { from = f; to = t; worth = w; marks = m })) m
 unfolding dish_words marks_from number_at read_on digits all_words is_word all_plain plain is_blank
 sixteen f t w zero few = record { read = refl; plain_words = refl; short = refl }
@@ -76,7 +76,7 @@ digits_plain [] h = refl
 digits_plain (b ∷ bs) h = rw (digits_plain bs (grind (arith, nat_tests))) (grind (arith, nat_tests))
 
 name_plain : (w : List ℕ) → all_name_bytes w ≡ true → all_plain w ≡ true
-unfolding all_plain plain is_blank all_name_bytes is_name_byte
+unfolding all_plain plain is_blank is_name_byte
 name_plain [] h = refl
 name_plain (b ∷ bs) h = rw (name_plain bs (grind (arith, nat_tests))) (grind (arith, nat_tests))
 

@@ -1,6 +1,6 @@
--- What is read, as a night.
-use Rattle.std.proofs.Common.{rules, ◌≡◌, ℕ, suc, true, List, [], ◌∷◌, length, map, is_some, String, Vec, Global, string_bytes, Some, None, Option, Ok, Err, Result, refl, sym, ap, subst, arith}
-use Rattle.std.specs.Prelude.{IsSome, IfSome}
+-- What is read, as a night. Assumes nothing.
+use Rattle.std.proofs.Common.{◌≡◌, ℕ, ◌*◌, true, List, [], ◌∷◌, length, map, String, Vec, Global, string_bytes, Some, None, Option, Ok, Err, Result, refl, sym, subst, ◌∙◌, arith}
+use Rattle.std.specs.Prelude.{IfSome}
 use Rattle.std.proofs.lemmas.Bool.Decides.{nat_tests}
 use Rattle.std.proofs.lemmas.List.{length-map}
 use Rattle.passes.specs.declared.refusals.Refusal.{Refusal}
@@ -10,24 +10,28 @@ use Rattle.passes.specs.declared.nights.Night.{Night}
 use Rattle.passes.specs.Nights.{station_of, passes_of}
 use Rattle.passes.specs.Numbers.{passes_in}
 use Rattle.passes.specs.Refusals.{refused}
-use Rattle.text.specs.declared.drafts.Entry as code
-use Rattle.text.specs.declared.drafts.StationLine.{StationLine}
+use Rattle.passes.proofs.Fours.{length-passes_in}
+use Rattle.text.specs.declared.draft.Entry as code
+use Rattle.text.specs.declared.draft.StationLine.{StationLine}
 use Rattle.text.specs.declared.faults.TurnedAway.{TurnedAway}
 use Rattle.text.specs.declared.faults.TurnedAway.TheVariants.{Refused}
 use Rattle.text.specs.declared.nights.NamedNight.{NamedNight}
 use Rattle.text.specs.Drafts.{Entry}
 use Rattle.text.specs.Lists.{NamedList, list_of}
 use Rattle.text.specs.Names.{are_names, name_each}
-use Rattle.text.specs.Reading.{numbers_of, names_in, line_about, rule_about, taken_with}
+use Rattle.text.specs.Blame.{line_about, rule_about}
+use Rattle.text.specs.Reading.{numbers_of, names_in, taken_with}
 use Rattle.text.specs.Views.{entry_of}
 
-pub four_each : (es : List Entry) → length (passes_in (numbers_of es)) ≡ length es
-unfolding passes_in
-four_each [] = refl
-four_each (e ∷ es) = ap suc (four_each es)
+-- the numbers of passes come in fours
+pub fours : (es : List Entry) → length (numbers_of es) ≡ 4 * length es
+fours [] = refl
+fours (e ∷ es) = omega (arith, fours es)
+
+four_each : (es : List Entry) → length (passes_in (numbers_of es)) ≡ length es
+four_each es = length-passes_in (numbers_of es) ∙ omega (arith, fours es)
 
 all_named : (es : List code.Entry) → are_names (names_in (map entry_of es)) ≡ true
-unfolding are_names
 all_named [] = refl
 all_named (e ∷ es) = rw (e.named, all_named es) refl
 
@@ -44,10 +48,6 @@ module _ (s : StationLine) (es : List Entry) where
   pub accepted : None ≡ refused s.dishes s.turn (numbers_of es) → taken_with s es ≡ Ok (record { station = station_of s.dishes s.turn; names = names_in es; passes = passes_in (numbers_of es) })
   unfolding taken_with
   accepted e = rw (sym e) refl
-
-pub some_if : {A : Type 0} (o : Option A) → is_some o ≡ true → IsSome o
-some_if (Some x) e = search rules
-some_if None e = absurd cc
 
 abbrev read : NamedList → Result NamedList TurnedAway
 read l = Ok l

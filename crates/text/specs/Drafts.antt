@@ -1,6 +1,6 @@
 -- A list as far as it is read, line by line. Assumes nothing: these are definitions.
 use Rattle.std.specs.Prelude.{ℕ, ◌+◌, List, [], ◌∷◌, ◌++◌, length, nat_lt, is_some, is_none, Some, None, Option, Ok, Err, Result, if◌then◌else◌}
-use Rattle.text.specs.declared.drafts.StationLine.{StationLine}
+use Rattle.text.specs.declared.draft.StationLine.{StationLine}
 use Rattle.text.specs.declared.faults.LineFault.{LineFault}
 use Rattle.text.specs.declared.faults.LineFault.TheVariants.{TooLong, SecondStation, NoStation}
 use Rattle.text.specs.declared.faults.TurnedAway.{TurnedAway}
@@ -18,16 +18,16 @@ pub record Entry : Type 0 where
   pub pass : NamedPass
   pub line : ℕ
 
--- the station, once a line has said it, and the passes so far
+-- what the lines of a text say as far as they are read: the station, once a line has said it, and the passes
 pub record Draft : Type 0 where
   pub station : Option StationLine
   pub entries : List Entry
 
--- nothing is read
+-- the draft of which no line is read yet
 abbrev pub empty : Draft
 empty = record { station = None; entries = [] }
 
--- a station is said once, and before all passes; line i says this
+-- a draft once line i has said something too: a station is said once, and before all passes
 unfoldable pub with_said : ℕ → Draft → Said → Result Draft LineFault
 with_said i d nothing = Ok d
 with_said i d (station dishes turn) =
@@ -35,20 +35,20 @@ with_said i d (station dishes turn) =
 with_said i d (pass p) =
     if is_none d.station then Err NoStation else Ok (record { station = d.station; entries = d.entries ++ (record { pass = p; line = i } ∷ []) })
 
--- what is read once line i is too
+-- a draft once line i is read too, or what is wrong with that line
 unfoldable pub with_line : ℕ → Draft → List ℕ → Result Draft LineFault
 with_line i d line = if nat_lt longest_line (length line) then Err TooLong else (said_by (words_of line) >>= with_said i d)
 
--- a fault is one of line i
+-- a text is turned away for what is wrong with its line i
 unfoldable pub at_line : {A : Type 0} → ℕ → Result A LineFault → Result A TurnedAway
 at_line i (Ok x) = Ok x
 at_line i (Err fault) = Err (Unreadable (record { line = i; fault = fault }))
 
--- what is read once these lines are, of which line i is the first; or the first that can't be read, and why
+-- a draft once more lines are read, of which line i is the first; or the first of them that can't be read, and why
 unfoldable pub with_lines : ℕ → Draft → List (List ℕ) → Result Draft TurnedAway
 with_lines i d [] = Ok d
 with_lines i d (line ∷ lines) = at_line i (with_line i d line) >>= (λ e. with_lines (i + 1) e lines)
 
--- all of a text is read
+-- the draft of all lines of a text; or the first line that can't be read, and why
 unfoldable pub draft_of : List ℕ → Result Draft TurnedAway
 draft_of text = with_lines 0 empty (lines_of text)

@@ -2,13 +2,14 @@ pub mod Names
 pub mod Refusals
 pub mod Lists
 pub mod Labels
-pub mod Plans
+pub mod PlanText
 pub mod Writing
 pub mod Words
 pub mod Lines
 pub mod Drafts
 pub mod Results
 pub mod Views
+pub mod Blame
 pub mod Reading
 pub mod Messages
 pub mod Statements

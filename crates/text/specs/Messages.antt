@@ -12,7 +12,7 @@ use Rattle.text.specs.declared.faults.TurnedAway.TheVariants.{Unreadable, Refuse
 use Rattle.text.specs.Refusals.{number_of, place_of, line_of}
 use Rattle.text.specs.Words.{is_blank, lines_of}
 
--- what would be right, where a line can't be read
+-- what is told of a line that can't be read: how it would be right
 unfoldable pub line_rule : LineFault → List ℕ
 line_rule TooLong = codes "a line has at most 1000 bytes"
 line_rule UnknownWord = codes "a line begins with dishes, pass or #"
@@ -25,7 +25,7 @@ line_rule DishTwice = codes "a dish is named twice"
 line_rule SecondStation = codes "a list has one station, and this is a second"
 line_rule NoStation = codes "the station comes first, as: dishes 2 turn 3"
 
--- what would be right, where all lines can be read
+-- what is told of a list whose lines can be read: the rule that it breaks
 unfoldable pub list_rule : ListRule → List ℕ
 list_rule Dishes = codes "a station has 1 to 4 dishes"
 list_rule Turning = codes "dishes take at most 100000 seconds to turn"
@@ -36,12 +36,12 @@ list_rule Worth = codes "a pass is worth at most 1000000"
 list_rule Marks = codes "dishes are 0 to 3"
 list_rule Order = codes "a pass begins no sooner than the one before it"
 
--- what would be right
+-- what is told of a text that is turned away: how its line would be right, or the rule that its list breaks
 abbrev pub rule_of : TurnedAway → List ℕ
 rule_of (Unreadable bad) = line_rule bad.fault
 rule_of (Refused why line rule) = list_rule rule
 
--- the number, the place, what would be right, and the line, counted from 1
+-- why a text is turned away, in words: the number, the place, what would be right, and the line, counted from 1
 unfoldable pub turned_away_text : TurnedAway → List ℕ
 turned_away_text t = codes "number " ++ decimal (number_of t) ++ codes " at " ++ decimal (place_of t) ++ codes ": " ++ rule_of t ++ codes ", in line " ++ decimal (line_of t + 1)
 
@@ -62,6 +62,6 @@ abbrev pub error_text : ReadError → List ℕ
 error_text Memory = codes "memory ran out"
 error_text (Away why) = turned_away_text why
 
--- all that is said, in one line that ends with the line of the text
+-- all that is said of a text that is turned away, in one line that ends with the line of the text at fault
 abbrev pub refusal_line : List ℕ → TurnedAway → List ℕ
 refusal_line text why = codes "turned away, " ++ (turned_away_text why ++ (codes ": " ++ (shown (line_at text (line_of why)) ++ codes "\n")))

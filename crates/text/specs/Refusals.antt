@@ -9,12 +9,12 @@ abbrev pub number_of : TurnedAway → ℕ
 number_of (Unreadable bad) = 4
 number_of (Refused why line rule) = lists.number_of why
 
--- where the fault is: the line, or the place of the refusal
+-- the place for which a text is turned away: the line that can't be read, or the place of the refusal
 abbrev pub place_of : TurnedAway → ℕ
 place_of (Unreadable bad) = bad.line
 place_of (Refused why line rule) = lists.place_of why
 
--- the line at fault
+-- the line for which a text is turned away
 abbrev pub line_of : TurnedAway → ℕ
 line_of (Unreadable bad) = bad.line
 line_of (Refused why line rule) = line

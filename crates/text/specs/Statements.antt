@@ -4,7 +4,7 @@ use Rattle.passes.specs.Checks.{most_passes, checked}
 use Rattle.passes.specs.declared.refusals.Refusal.{Refusal}
 use Rattle.passes.specs.declared.refusals.Refusal.TheVariants.{BadPass, BadRoom}
 use Rattle.passes.specs.Refusals.{refused}
-use Rattle.text.specs.declared.drafts.StationLine.{StationLine}
+use Rattle.text.specs.declared.draft.StationLine.{StationLine}
 use Rattle.text.specs.declared.faults.BadLine.{BadLine}
 use Rattle.text.specs.declared.faults.LineFault.{LineFault}
 use Rattle.text.specs.declared.faults.LineFault.TheVariants.{NoStation}
@@ -14,7 +14,8 @@ use Rattle.text.specs.declared.faults.TurnedAway.TheVariants.{Unreadable, Refuse
 use Rattle.text.specs.Drafts.{Draft, Entry, empty, with_line, with_lines, draft_of}
 use Rattle.text.specs.Lists.{NamedList}
 use Rattle.text.specs.Names.{name_each}
-use Rattle.text.specs.Reading.{numbers_of, numbers_at, line_about, rule_about, last_line, read_text}
+use Rattle.text.specs.Blame.{line_about, numbers_at, rule_about}
+use Rattle.text.specs.Reading.{numbers_of, last_line, read_text}
 use Rattle.text.specs.Words.{lines_of}
 use Rattle.text.specs.Writing.{written}
 
@@ -23,21 +24,22 @@ pub record Listed (l : NamedList) : Type 0 where
   pub sound : checked l.station l.passes ≡ true
   pub named : name_each (length l.passes) l.names ≡ true
 
--- all lines before line i can be read, and it can't, for this fault
+-- all lines of a text before line i can be read, and line i can't, for this fault
 pub record StopsAt (text : List ℕ) (i : ℕ) (fault : LineFault) : Type 0 where
   pub within : i < length (lines_of text)
   pub before : Draft
   pub read : with_lines 0 empty (take i (lines_of text)) ≡ Ok before
   pub unread : with_line i before (slice_index_or (lines_of text) i []) ≡ Err fault
 
--- all lines can be read, none of them says a station, and the text ends in line i
+-- all lines of a text can be read, none of them says a station, and the text ends in line i
 pub record HasNoStation (text : List ℕ) (i : ℕ) : Type 0 where
   pub all : Draft
   pub read : draft_of text ≡ Ok all
   pub none : all.station ≡ None
   pub last : i ≡ last_line text
 
--- the line for which a text is turned away is the first that can't be read, with what is wrong there; or it is the one in which a text without a station ends
+-- the line for which a text is turned away is the first that can't be read, with what is wrong there; or it is the one in which a
+-- text without a station ends
 abbrev pub FirstAtFault : Type 0
 FirstAtFault =
     (text : List ℕ) (bad : BadLine) → read_text text ≡ Err (Unreadable bad) →
@@ -48,7 +50,8 @@ abbrev pub UnreadableFirst : Type 0
 UnreadableFirst =
     (text : List ℕ) (i : ℕ) (fault : LineFault) → StopsAt text i fault → read_text text ≡ Err (Unreadable (record { line = i; fault = fault }))
 
--- all lines can be read, one says a station, and this refusal applies to what they say; the line is that of the station or of the pass that it is about
+-- all lines of a text can be read, one says a station, and this refusal applies to what they say; the line is that of the station
+-- or of the pass that it is about
 pub record RefusedFor (text : List ℕ) (why : Refusal) (line : ℕ) (rule : ListRule) : Type 0 where
   pub all : Draft
   pub station : StationLine
@@ -58,11 +61,11 @@ pub record RefusedFor (text : List ℕ) (why : Refusal) (line : ℕ) (rule : Lis
   pub at : line ≡ line_about station all.entries why
   pub about : rule ≡ rule_about all.entries why
 
--- a text that is turned away otherwise is refused for what its lines say
+-- a text that is turned away, but not for a line that can't be read, is refused for what its lines say
 abbrev pub RefusedForWhatItSays : Type 0
 RefusedForWhatItSays = (text : List ℕ) (why : Refusal) (line : ℕ) (rule : ListRule) → read_text text ≡ Err (Refused why line rule) → RefusedFor text why line rule
 
--- pass i breaks this rule
+-- pass i of those that are read breaks this rule
 abbrev pub Breaks : List Entry → ℕ → ListRule → Type 0
 Breaks es i Dishes = ⊥
 Breaks es i Turning = ⊥

@@ -31,6 +31,6 @@ read_on n (c ∷ cs) = read_on (10 * n + (c - 48)) cs
 unfoldable pub number_at : List ℕ → Result ℕ LineFault
 number_at w = if nat_le 1 (length w) && (all_ascii_digits w && nat_lt (read_on 0 w) (2 ^ 32)) then Ok (read_on 0 w) else Err BadNumber
 
--- the name that a word is
+-- the name that a word is, if it is one
 unfoldable pub name_at : List ℕ → Result (List ℕ) LineFault
 name_at w = if is_name w then Ok w else Err BadName

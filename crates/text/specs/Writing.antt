@@ -11,7 +11,7 @@ use Rattle.text.specs.Lists.{NamedList}
 abbrev pub station_words : Station → List (List ℕ)
 station_words s = codes "dishes" ∷ (decimal s.dishes ∷ (codes "turn" ∷ (decimal s.turn ∷ [])))
 
--- the dishes, of 0 to 3, that may follow a pass
+-- the numbers of the dishes, of 0 to 3, that may follow a pass
 unfoldable pub dish_words : Pass → List (List ℕ)
 dish_words p = map decimal (filter (may p) (range_with_len 0 4))
 
@@ -24,11 +24,11 @@ abbrev pub spaced : List (List ℕ) → List ℕ
 spaced [] = []
 spaced (w ∷ ws) = w ++ flat_map (λ v. codes " " ++ v) ws
 
--- a line, which a line feed ends
+-- words as a line, which a line feed ends
 abbrev pub line : List (List ℕ) → List ℕ
 line ws = spaced ws ++ codes "\n"
 
--- the words of all lines: the station, then each pass
+-- the words of all lines of a list: the station, then each pass
 abbrev pub lines : NamedList → List (List (List ℕ))
 lines l = station_words l.station ∷ map (λ x. pass_words x.0 x.1) (zip l.names l.passes)
 

@@ -1,4 +1,4 @@
-// What passes are called, so that none is taken for another.
+// What passes are called: their name, and where another has the same name their begin too.
 ghost use Rattle.std.specs.Prelude.{◌≡◌, map, string_bytes, IfOk};
 ghost use Rattle.passes.specs.Nights.{passes_of};
 ghost use Rattle.text.specs.Labels.{shared, label_of, labels_of};

@@ -1,19 +1,20 @@
 // Lists of passes as text: reading and writing them, and printing plans.
 #![tactic(auto)]
 
-mod drafting;
-mod drafts;
+mod blame;
+mod draft;
+mod draft_reading;
 mod faults;
 mod labels;
 mod laws;
-mod lines;
+mod line;
+mod line_reading;
 mod messages;
 mod names;
 mod nights;
+mod plan_text;
 mod planned;
-mod plans;
 mod reading;
-mod said;
 mod words;
 mod writing;
 

@@ -1,7 +1,8 @@
-// What a pass may be called.
+// Which words are names.
 ghost use Rattle.std.specs.Prelude.{◌≡◌, map, string_bytes};
 ghost use Rattle.text.specs.Names.{is_name_byte, is_name, are_names};
 
+// How many bytes a name has at most.
 const MAX_NAME: usize = 32;
 
 // Whether a byte may stand in a name.

@@ -34,11 +34,4 @@ impl NamedNight {
     {
         &self.night
     }
-
-    // The names of the passes, in the order of the list.
-    pub fn names(&self) -> &[String]
-        ensures { result.now ≡ self.now.names.items }
-    {
-        &self.names
-    }
 }

@@ -1,36 +1,21 @@
 // The list that a text stands for.
 ghost use Rattle.std.specs.Prelude.{◌≡◌, map, string_bytes, IfOk};
 ghost use Rattle.text.specs.Lists.{list_of};
-ghost use Rattle.text.specs.Reading.{line_about, numbers_at, rule_of_pass, rule_about, numbers_of, names_in, last_line, taken_with, taken, read_text};
-ghost use Rattle.text.specs.Results.{GivesIfRoom};
+ghost use Rattle.text.specs.Reading.{numbers_of, names_in, last_line, taken_with, taken, read_text};
+ghost use Rattle.text.specs.Results.{GivesIfMemory};
 ghost use Rattle.text.specs.Views.{view_of};
 
-use crate::drafts::{Draft, StationLine};
-use crate::faults::{LineFault, ListRule, ReadError, TurnedAway, unreadable};
+use crate::draft::{Draft, StationLine};
+use crate::faults::{LineFault, ReadError, TurnedAway, unreadable};
 use crate::nights::NamedNight;
-use crate::said::Numbers;
-use passes::{MAX_PASSES, Night, Refusal};
+use passes::Night;
 use std::alloc::{AllocError, Global};
-
-const MAX_SECOND: u32 = 1_000_000;
-
-const MAX_WORTH: u32 = 1_000_000;
-
-const MAX_MARKS: u32 = 15;
-
-// What is said of a pass that isn't there.
-const NO_NUMBERS: Numbers = Numbers {
-    from: 0,
-    to: 0,
-    worth: 0,
-    marks: 0,
-};
 
 impl NamedNight {
     // The list that a text stands for; or why it is turned away: the first line that can't be read, or else the first refusal that applies.
     #[tactic(auto, unfolding(crate::specs::Reading::read_text))]
     pub fn read(alloc: Global, text: &[u8]) -> Result<NamedNight, ReadError>
-        ensures { GivesIfRoom list_of result (read_text text.now) }
+        ensures { GivesIfMemory list_of result (read_text text.now) }
     {
         let draft = Draft::read(alloc, text)?;
         draft.into_night(alloc, last_line(text))
@@ -48,7 +33,7 @@ impl Draft {
     // Takes what was read as a night with names, or turns it away. Without a station the line in which the text ends is at fault.
     #[tactic(auto, unfolding(crate::specs::Reading::taken))]
     fn into_night(self, alloc: Global, last: usize) -> Result<NamedNight, ReadError>
-        ensures { GivesIfRoom list_of result (taken last (view_of self)) }
+        ensures { GivesIfMemory list_of result (taken last (view_of self)) }
     {
         let Some(station) = self.station else {
             return Err(unreadable(last, LineFault::NoStation));
@@ -58,7 +43,7 @@ impl Draft {
 
     // Takes what was read behind this station as a night with names, or turns it away.
     fn into_night_with(self, alloc: Global, station: StationLine) -> Result<NamedNight, ReadError>
-        ensures { GivesIfRoom list_of result (taken_with station (view_of self).entries) }
+        ensures { GivesIfMemory list_of result (taken_with station (view_of self).entries) }
     {
         let numbers = self.numbers(alloc)?;
         match Night::read(station.dishes as u64, station.turn as u64, &numbers) {
@@ -92,61 +77,5 @@ impl Draft {
             .into_iter()
             .map(|entry| entry.name)
             .collect(alloc)
-    }
-
-    // The line that a refusal is about: that of the station, or of the pass.
-    #[tactic(auto, unfolding(crate::specs::Reading::line_about))]
-    fn line_about(&self, station: StationLine, refusal: Refusal) -> usize
-        ensures { result ≡ line_about station (view_of self.now).entries refusal }
-    {
-        match refusal {
-            Refusal::BadDishes | Refusal::BadTurning => station.line,
-            Refusal::BadPass(pass) if pass < self.entries.len() => self.entries[pass].line,
-            Refusal::BadPass(_) | Refusal::BadRoom(_) => 0,
-        }
-    }
-
-    // The rule that a refusal is about.
-    #[tactic(auto, using(std::proofs::lemmas::Bool::Decides::nat_tests), unfolding(crate::specs::Reading::rule_about))]
-    fn rule_about(&self, refusal: Refusal) -> ListRule
-        ensures { result ≡ rule_about (view_of self.now).entries refusal }
-    {
-        match refusal {
-            Refusal::BadDishes => ListRule::Dishes,
-            Refusal::BadTurning => ListRule::Turning,
-            Refusal::BadPass(pass) if pass < MAX_PASSES => self.numbers_at(pass).rule(),
-            Refusal::BadPass(_) | Refusal::BadRoom(_) => ListRule::Count,
-        }
-    }
-
-    // The numbers of a pass, or none where there is no such pass.
-    fn numbers_at(&self, pass: usize) -> Numbers
-        ensures { result ≡ numbers_at (view_of self.now).entries pass }
-    {
-        if pass < self.entries.len() {
-            self.entries[pass].numbers
-        } else {
-            NO_NUMBERS
-        }
-    }
-}
-
-impl Numbers {
-    // The rule that a pass at fault breaks: of several the first.
-    #[tactic(auto, using(std::proofs::lemmas::Bool::Decides::nat_tests), unfolding(crate::specs::Reading::rule_of_pass))]
-    fn rule(self) -> ListRule
-        ensures { result ≡ rule_of_pass self }
-    {
-        if self.to <= self.from {
-            ListRule::Span
-        } else if self.to > MAX_SECOND {
-            ListRule::End
-        } else if self.worth > MAX_WORTH {
-            ListRule::Worth
-        } else if self.marks > MAX_MARKS {
-            ListRule::Marks
-        } else {
-            ListRule::Order
-        }
     }
 }

@@ -1,4 +1,4 @@
-use Rattle.text.proofs.FirstFault.{refused_for_what_it_says, no_room}
+use Rattle.text.proofs.Refusing.{refused_for_what_it_says, no_room}
 use Rattle.text.proofs.Rules.{rule_is_broken}
 use Rattle.text.proofs.laws.refused_for_what_it_says_stands.Goals as goal
 

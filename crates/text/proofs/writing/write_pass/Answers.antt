@@ -1,6 +1,6 @@
 use Rattle.std.proofs.Common.{◌≡◌, arith}
 use Rattle.std.proofs.lemmas.Grind.{common_steps}
-use Rattle.text.proofs.Telling.{marked_more, marked_all, none_marked}
+use Rattle.text.proofs.Marked.{marked_more, marked_all, none_marked}
 use Rattle.text.proofs.writing.write_pass.Goals as goal
 use Rattle.text.proofs.writing.write_pass.Goals.{then-may_be_followed_by+in_ok-write-2, else-may_be_followed_by}
 

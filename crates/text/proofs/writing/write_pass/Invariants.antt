@@ -1,5 +1,5 @@
 use Rattle.std.proofs.Common.{◌≡◌, ◌++◌, string_bytes}
-use Rattle.text.proofs.Telling.{marked}
+use Rattle.text.proofs.Marked.{marked}
 use Rattle.text.proofs.writing.write_pass.Given as goal
 
 -- the dishes so far are written

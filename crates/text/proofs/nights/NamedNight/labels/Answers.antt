@@ -6,7 +6,7 @@ use Rattle.std.proofs.lemmas.Grind.{common_steps}
 use Rattle.std.proofs.lemmas.Slice.Zip.{either_empty_from_Zip}
 use Rattle.text.specs.Labels.{label_of}
 use Rattle.text.specs.Lists.{names_of}
-use Rattle.text.proofs.Telling.{no_pairs, one_more}
+use Rattle.text.proofs.Ends.{no_pairs, one_more}
 use Rattle.text.proofs.nights.NamedNight.labels.Goals as goal
 
 pub loop-name-preserved : goal.loop-name-preserved

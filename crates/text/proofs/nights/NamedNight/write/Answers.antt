@@ -3,7 +3,7 @@ use Rattle.std.proofs.lemmas.Grind.{common_steps}
 use Rattle.std.proofs.lemmas.Slice.Zip.{either_empty_from_Zip}
 use Rattle.text.specs.Reading.{read_text}
 use Rattle.text.proofs.RoundTrip.{night_back}
-use Rattle.text.proofs.Telling.{no_pairs}
+use Rattle.text.proofs.Ends.{no_pairs}
 use Rattle.text.proofs.nights.NamedNight.write.Goals as goal
 
 pub loop-name-preserved : goal.loop-name-preserved

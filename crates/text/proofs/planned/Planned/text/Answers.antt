@@ -1,13 +1,14 @@
 use Rattle.std.proofs.Common.{◌≡◌, ◌++◌, ◌∙◌, map, codes, string_bytes, ap, refl, arith, rules}
 use Rattle.std.proofs.lemmas.Grind.{common_steps}
 use Rattle.std.proofs.lemmas.Slice.{pushed}
-use Rattle.text.specs.Plans.{row}
-use Rattle.text.proofs.Telling.{range_more, all_lines}
+use Rattle.text.specs.PlanText.{row}
+use Rattle.text.proofs.Ends.{range_more}
+use Rattle.text.proofs.PlanLines.{all_lines}
 use Rattle.text.proofs.planned.Planned.text.Goals as goal
 
 pub loop-dish-preserved : goal.loop-dish-preserved
 loop-dish-preserved c =
-    let more = range_more c.loop-dish.dish-counter in
+    let more = range_more 0 c.loop-dish.dish-counter c.loop-dish.dish-counter (omega arith) in
     grind (arith, common_steps)
 
 pub returns : goal.returns

@@ -1,6 +1,6 @@
 use Rattle.std.proofs.Common.{◌≡◌, ◌++◌, map, string_bytes}
 use Rattle.std.specs.List.{flat_map, range_with_len}
-use Rattle.text.specs.Plans.{dish_line, worth_line}
+use Rattle.text.specs.PlanText.{dish_line, worth_line}
 use Rattle.text.proofs.planned.Planned.text.Given as goal
 
 -- the dishes so far are written

@@ -1,7 +1,0 @@
-use Rattle.std.proofs.Common.{◌≡◌, map, take}
-use Rattle.text.specs.Reading.{numbers_of}
-use Rattle.text.specs.Views.{entry_of}
-use Rattle.text.proofs.drafts.Draft.numbers.Given as goal
-
-abbrev pub invariant-loop-entry : goal.invariant-loop-entry
-invariant-loop-entry l = l.numbers.items ≡ numbers_of (map entry_of (take l.entry-index l.entry-items))

@@ -1,0 +1,37 @@
+-- Which line of a text and which rule a refusal is about. Assumes nothing: these are definitions.
+use Rattle.std.specs.Prelude.{ℕ, List, map, get_or, nat_le, nat_lt, if◌then◌else◌}
+use Rattle.passes.specs.Checks.{most_passes}
+use Rattle.passes.specs.declared.refusals.Refusal.{Refusal}
+use Rattle.passes.specs.declared.refusals.Refusal.TheVariants.{BadDishes, BadTurning, BadPass, BadRoom}
+use Rattle.text.specs.declared.draft.StationLine.{StationLine}
+use Rattle.text.specs.declared.faults.ListRule.{ListRule}
+use Rattle.text.specs.declared.faults.ListRule.TheVariants.{Dishes, Turning, Count, Span, End, Worth, Marks, Order}
+use Rattle.text.specs.declared.line.Numbers.{Numbers}
+use Rattle.text.specs.Drafts.{Entry}
+
+-- the line of a text that a refusal is about: that of the station, or of the pass
+unfoldable pub line_about : StationLine → List Entry → Refusal → ℕ
+line_about s es BadDishes = s.line
+line_about s es BadTurning = s.line
+line_about s es (BadPass i) = get_or (map (λ e. e.line) es) i 0
+line_about s es (BadRoom n) = 0
+
+-- the rule that a pass breaks: of several the first, and where its numbers break none, that passes come in order
+unfoldable pub rule_of_pass : Numbers → ListRule
+rule_of_pass p =
+    if nat_le p.to p.from then Span
+    else if nat_lt 1000000 p.to then End
+    else if nat_lt 1000000 p.worth then Worth
+    else if nat_lt 15 p.marks then Marks
+    else Order
+
+-- the numbers of pass i of a draft, or zeros where there is no such pass
+abbrev pub numbers_at : List Entry → ℕ → Numbers
+numbers_at es i = get_or (map (λ e. e.pass.numbers) es) i (record { from = 0; to = 0; worth = 0; marks = 0 })
+
+-- the rule that a refusal of a draft is about: passes from the 49th on are too many
+unfoldable pub rule_about : List Entry → Refusal → ListRule
+rule_about es BadDishes = Dishes
+rule_about es BadTurning = Turning
+rule_about es (BadPass i) = if nat_lt i most_passes then rule_of_pass (numbers_at es i) else Count
+rule_about es (BadRoom n) = Count

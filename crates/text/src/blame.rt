@@ -1,0 +1,84 @@
+// The line of a text and the rule that a refusal is about.
+ghost use Rattle.std.specs.Prelude.{◌≡◌};
+ghost use Rattle.text.specs.Blame.{line_about, rule_of_pass, numbers_at, rule_about};
+ghost use Rattle.text.specs.Views.{view_of};
+
+use crate::draft::{Draft, StationLine};
+use crate::faults::ListRule;
+use crate::line::Numbers;
+use passes::{MAX_PASSES, Refusal};
+
+// The last second by which a pass may end.
+const MAX_SECOND: u32 = 1_000_000;
+
+// How much a pass may be worth.
+const MAX_WORTH: u32 = 1_000_000;
+
+// The marks of all dishes that a station may have.
+const MAX_MARKS: u32 = 15;
+
+// What is said of a pass that isn't there.
+const NO_NUMBERS: Numbers = Numbers {
+    from: 0,
+    to: 0,
+    worth: 0,
+    marks: 0,
+};
+
+impl Draft {
+    // The line that a refusal is about: that of the station, or of the pass.
+    #[tactic(auto, unfolding(crate::specs::Blame::line_about))]
+    pub(crate) fn line_about(&self, station: StationLine, refusal: Refusal) -> usize
+        ensures { result ≡ line_about station (view_of self.now).entries refusal }
+    {
+        match refusal {
+            Refusal::BadDishes | Refusal::BadTurning => station.line,
+            Refusal::BadPass(pass) if pass < self.entries.len() => self.entries[pass].line,
+            Refusal::BadPass(_) | Refusal::BadRoom(_) => 0,
+        }
+    }
+
+    // The rule that a refusal is about.
+    #[tactic(auto, using(std::proofs::lemmas::Bool::Decides::nat_tests), unfolding(crate::specs::Blame::rule_about))]
+    pub(crate) fn rule_about(&self, refusal: Refusal) -> ListRule
+        ensures { result ≡ rule_about (view_of self.now).entries refusal }
+    {
+        match refusal {
+            Refusal::BadDishes => ListRule::Dishes,
+            Refusal::BadTurning => ListRule::Turning,
+            Refusal::BadPass(pass) if pass < MAX_PASSES => self.numbers_at(pass).rule(),
+            Refusal::BadPass(_) | Refusal::BadRoom(_) => ListRule::Count,
+        }
+    }
+
+    // The numbers of a pass, or none where there is no such pass.
+    fn numbers_at(&self, pass: usize) -> Numbers
+        ensures { result ≡ numbers_at (view_of self.now).entries pass }
+    {
+        if pass < self.entries.len() {
+            self.entries[pass].numbers
+        } else {
+            NO_NUMBERS
+        }
+    }
+}
+
+impl Numbers {
+    // The rule that a pass at fault breaks: of several the first.
+    #[tactic(auto, using(std::proofs::lemmas::Bool::Decides::nat_tests), unfolding(crate::specs::Blame::rule_of_pass))]
+    fn rule(self) -> ListRule
+        ensures { result ≡ rule_of_pass self }
+    {
+        if self.to <= self.from {
+            ListRule::Span
+        } else if self.to > MAX_SECOND {
+            ListRule::End
+        } else if self.worth > MAX_WORTH {
+            ListRule::Worth
+        } else if self.marks > MAX_MARKS {
+            ListRule::Marks
+        } else {
+            ListRule::Order
+        }
+    }
+}
