@@ -1,8 +1,8 @@
--- The letter of each pass stands in the row of its lane, and in no other row.
+-- The letter of each pass stands in the row of its lane, and in no other row. Assumes nothing.
 use Rattle.std.proofs.Common.{◌≡◌, ℕ, zero, suc, ◌+◌, ◌<◌, ◌≤◌, ◌≢◌, Bool, true, false, cond, ◌==◌, List, [], ◌∷◌, length, refl, sym, ap, ◌∙◌, arith, ◌⊎◌, inl, inr, eq-eqb}
 use Rattle.std.specs.Prelude.{slice_index}
 use Rattle.std.specs.List.{fold}
-use Rattle.std.proofs.lemmas.Bool.{eqb-true}
+use Rattle.std.proofs.lemmas.Bool.{cases_Bool, eqb-true}
 use Rattle.std.proofs.lemmas.List.Sums.{count_by-le-length}
 use Rattle.std.proofs.lemmas.Bool.Decides.{nat_tests}
 use Rattle.std.proofs.lemmas.List.FromFn.{get_or-map-range_with_len}
@@ -15,11 +15,7 @@ use Rattle.drawing.specs.Columns.{columns, place_on, scale_of}
 use Rattle.drawing.specs.Rows.{letter, in_lane, begin_column, bar_from, bars_from, over, cell, bars_of, row}
 use Rattle.drawing.specs.Shown.{Shown}
 use Rattle.drawing.specs.Timelines.{LettersInTheirRows}
-use Rattle.drawing.proofs.Lanes.{in_lane-cons}
-
-pub either : (b : Bool) → (b ≡ true) ⊎ (b ≡ false)
-either true = inl refl
-either false = inr refl
+use Rattle.drawing.proofs.LaneBars.{in_lane-cons}
 
 -- ---- one bar
 
@@ -82,7 +78,7 @@ module _ (turn : ℕ) (s : Scale) (d : ℕ) where
   later c under free i [] ds lt room = refl
   later c under free i (p ∷ ps) [] lt room = refl
   later c under free i (p ∷ ps) (e ∷ ds) lt room =
-      elim (either (e == d)) [
+      elim (cases_Bool (e == d)) [
         | inl its ↦
             let b = begin_column (place_on columns s p.from) free (in_lane d (e ∷ ds)) in
             let one = one_left e ds its in
@@ -116,7 +112,7 @@ module _ (turn : ℕ) (s : Scale) (d : ℕ) where
       )
   drawn free i (p ∷ ps) (e ∷ ds) (suc j) lt len is room =
       let next : suc i + j ≡ i + suc j = omega arith in
-      elim (either (e == d)) [
+      elim (cases_Bool (e == d)) [
         | inl its ↦
             let b = begin_column (place_on columns s p.from) free (in_lane d (e ∷ ds)) in
             let one = one_left e ds its in
@@ -155,7 +151,7 @@ module _ (turn : ℕ) (s : Scale) (d : ℕ) where
   only c under free i [] ds = inl refl
   only c under free i (p ∷ ps) [] = inl refl
   only c under free i (p ∷ ps) (e ∷ ds) =
-      elim (either (e == d)) [
+      elim (cases_Bool (e == d)) [
         | inl its ↦
             let b = begin_column (place_on columns s p.from) free (in_lane d (e ∷ ds)) in
             let below = over c under (bar_from turn s d i b p) in

@@ -1,5 +1,5 @@
 pub mod Pieces
-pub mod Lanes
+pub mod LaneBars
 pub mod Drawn
 pub mod Levelling
 pub mod Plans

@@ -1,5 +1,6 @@
--- Each pass stands in the lane that it has.
+-- Each pass stands in the lane that it has. Assumes nothing.
 use Rattle.std.proofs.Common.{ℕ, ◌+◌, ◌-◌, ◌*◌, ◌<◌, ◌≤◌, cond, ◌==◌, arith}
+use Rattle.std.specs.Prelude.{slice_index}
 use Rattle.std.proofs.lemmas.Bool.Decides.{nat_tests}
 use Rattle.passes.specs.Rule.{says}
 use Rattle.drawing.specs.Areas.{row_of, top_of}
@@ -17,7 +18,7 @@ above_end shown d level count lt = grind (arith, nat_tests)
 pub in_lanes : (shown : Shown) → InTheirLanes shown
 in_lanes shown levels count i chosen lt =
     let d = says shown.plan i in
-    let level = says levels i in
+    let level = slice_index levels i in
     let top = below_top shown d level in
     let bottom = above_end shown d level count (chosen.below i lt) in
     record { bar = record { top = top; bottom = bottom }; tail = record { top = top; bottom = bottom } }

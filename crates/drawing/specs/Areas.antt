@@ -1,5 +1,5 @@
 -- Where things stand in a drawing, which is 1600 wide. Assumes nothing: these are definitions.
-use Rattle.std.specs.Prelude.{ℕ, ◌+◌, ◌-◌, ◌*◌, ◌/◌, Bool, List, cond, ◌==◌, nat_lt, min, max}
+use Rattle.std.specs.Prelude.{ℕ, ◌+◌, ◌-◌, ◌*◌, ◌/◌, Bool, List, cond, ◌==◌, nat_lt, min, max, slice_index}
 use Rattle.passes.specs.declared.model.Pass.{Pass}
 use Rattle.passes.specs.Rule.{nth, says}
 use Rattle.drawing.specs.declared.areas.Area.{Area}
@@ -12,7 +12,7 @@ use Rattle.drawing.specs.Shown.{Shown}
 abbrev pub drawn_scale : Shown → Scale
 drawn_scale shown = record { first = first_second shown.passes; last = last_second shown.passes + shown.station.turn }
 
--- time goes from x = 130 to x = 1570
+-- where the second t stands from left to right: time goes from x = 130 to x = 1570
 abbrev pub x_of : Shown → ℕ → ℕ
 x_of shown t = 130 + place_on 1440 (drawn_scale shown) t
 
@@ -20,7 +20,7 @@ x_of shown t = 130 + place_on 1440 (drawn_scale shown) t
 abbrev pub row_of : Shown → (d level : ℕ) → ℕ
 row_of shown d level = cond (d == 0) (shown.station.dishes + level) (d - 1)
 
--- where a row begins
+-- how far below the top of a drawing a row begins
 abbrev pub top_of : ℕ → ℕ
 top_of row = 90 + 150 * row
 
@@ -36,23 +36,23 @@ ground_area shown count d = record { x = 130; y = top_of (row_of shown d 0); wid
 abbrev pub bar_area : Shown → (row : ℕ) → Pass → Area
 bar_area shown row p = record { x = x_of shown p.from; y = top_of row + 5; width = max 2 (x_of shown p.to - x_of shown p.from); height = 130 }
 
--- and what its dish needs to turn after it
+-- the tail of a pass in a row: what its dish needs to turn after it
 abbrev pub tail_area : Shown → (d row : ℕ) → Pass → Area
 tail_area shown d row p =
     record { x = x_of shown p.to; y = top_of row + 5; width = x_of shown (p.to + turning d shown.station.turn) - x_of shown p.to; height = 130 }
 
 -- the bar of pass i, which stands in the row of the lane that the plan gives it, and there on its level
 abbrev pub drawn_bar : Shown → (levels : List ℕ) → (i : ℕ) → Area
-drawn_bar shown levels i = bar_area shown (row_of shown (says shown.plan i) (says levels i)) (nth shown.passes i)
+drawn_bar shown levels i = bar_area shown (row_of shown (says shown.plan i) (slice_index levels i)) (nth shown.passes i)
 
--- and the tail of pass i
+-- the tail of pass i, which stands in the row of its bar
 abbrev pub drawn_tail : Shown → (levels : List ℕ) → (i : ℕ) → Area
-drawn_tail shown levels i = tail_area shown (says shown.plan i) (row_of shown (says shown.plan i) (says levels i)) (nth shown.passes i)
+drawn_tail shown levels i = tail_area shown (says shown.plan i) (row_of shown (says shown.plan i) (slice_index levels i)) (nth shown.passes i)
 
 -- what is written in a bar, a label of so many letters and the worth, stands upright where it wouldn't fit from left to right
 abbrev pub is_upright : (letters width : ℕ) → Bool
 is_upright letters width = nat_lt width (10 * (letters + 6))
 
--- there it is as small as it has to be to fit, but never smaller than 6
+-- the size of what is written in a bar: 16 from left to right; upright from 6 to 13, the less the more letters and the narrower the bar
 abbrev pub size_for : (letters width : ℕ) → ℕ
 size_for letters width = cond (is_upright letters width) (max (min (min (210 / (letters + 6)) width) 13) 6) 16

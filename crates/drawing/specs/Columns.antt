@@ -1,4 +1,4 @@
--- Where a second stands in a row of 64 columns. Assumes nothing: these are definitions.
+-- Where a second stands on a scale, as in a row of 64 columns or in a drawing. Assumes nothing: these are definitions.
 use Rattle.std.specs.Prelude.{ℕ, ◌-◌, ◌*◌, ◌/◌, List, [], ◌∷◌, min, max}
 use Rattle.std.specs.List.{fold}
 use Rattle.passes.specs.declared.model.Pass.{Pass}
@@ -25,6 +25,6 @@ scale_of ps = record { first = first_second ps; last = last_second ps }
 abbrev pub seconds_of : Scale → ℕ
 seconds_of s = max 1 (s.last - s.first)
 
--- the column of the second t, of k that the scale has; k for what comes after its last second
+-- the column of the second t, of k columns that a scale has; k for what comes after its last second
 abbrev pub place_on : ℕ → Scale → ℕ → ℕ
 place_on k s t = min k ((t - s.first) * k / seconds_of s)

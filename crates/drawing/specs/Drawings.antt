@@ -1,42 +1,14 @@
 -- A planned night as an SVG document. Assumes nothing: these are definitions.
-use Rattle.std.specs.Prelude.{ℕ, ◌+◌, ◌-◌, ◌*◌, ◌/◌, cond, List, [], ◌++◌, ◌==◌, length, codes, slice_index_or, min}
+use Rattle.std.specs.Prelude.{ℕ, ◌+◌, ◌-◌, ◌*◌, ◌/◌, cond, List, [], ◌++◌, ◌==◌, length, codes, slice_index, slice_index_or, min}
 use Rattle.std.specs.Fmt.{decimal}
 use Rattle.std.specs.List.{flat_map, range_with_len}
 use Rattle.passes.specs.declared.model.Pass.{Pass}
 use Rattle.passes.specs.Rule.{nth, says}
 use Rattle.drawing.specs.declared.areas.Area.{Area}
-use Rattle.drawing.specs.declared.areas.Spot.{Spot}
 use Rattle.drawing.specs.Areas.{drawn_scale, row_of, top_of, height_of, ground_area, bar_area, tail_area, is_upright, size_for}
 use Rattle.drawing.specs.Shown.{Shown}
-use Rattle.drawing.specs.Timelines.{heading, lane_name, lanes}
-
--- a rectangle
-unfoldable pub rect : (class : List ℕ) → Area → List ℕ
-rect class a =
-    codes "<rect class='" ++ (class ++ (codes "' x='" ++ (decimal a.x ++ (codes "' y='" ++ (decimal a.y ++
-    (codes "' width='" ++ (decimal a.width ++ (codes "' height='" ++ (decimal a.height ++ codes "'/>")))))))))
-
--- where text stands, and how large it is
-unfoldable pub spot : (class : List ℕ) → Spot → List ℕ
-spot class at =
-    codes "<text class='" ++ (class ++ (codes "' font-size='" ++ (decimal at.size ++
-    (codes "' transform='translate(" ++ (decimal at.x ++ (codes " " ++ (decimal at.y ++ codes ")")))))))
-
--- text at a spot, turned by an angle
-unfoldable pub text : (class angle : List ℕ) → Spot → List ℕ → List ℕ
-text class angle at words = spot class at ++ (codes " rotate(" ++ (angle ++ (codes ")' dy='.35em'>" ++ (words ++ codes "</text>"))))
-
--- how the ground looks, and what belongs to the time scale
-abbrev pub ground_style : List ℕ
-ground_style = codes "text{font-family:sans-serif;fill:#333}.mid{text-anchor:middle}.paper{fill:#fff}.lane{fill:#f4f6f8}.tick{fill:#d5dae0}"
-
--- how passes look
-abbrev pub passes_style : List ℕ
-passes_style = codes ".tail{fill:#9cc3e6;fill-opacity:.4}.bar{fill:#9cc3e6;stroke:#5b8db8}.unfollowed .bar{fill:#dcdcdc;stroke:#a6a6a6}"
-
--- how everything looks
-unfoldable pub style : List ℕ
-style = codes "<style>" ++ (ground_style ++ (passes_style ++ codes "</style>\n"))
+use Rattle.drawing.specs.Elements.{rect, text, start, style}
+use Rattle.drawing.specs.Lanes.{heading, lane_name, lanes}
 
 -- a lane: its name, and a ground for its rows, of which so many are for those that aren't followed
 unfoldable pub lane_ground : Shown → (count d : ℕ) → List ℕ
@@ -53,11 +25,7 @@ tick shown count k =
     (decimal ((drawn_scale shown).first + ((drawn_scale shown).last - (drawn_scale shown).first) * k / 8))
     ++ codes "\n"
 
--- the document begins, and is so high
-unfoldable pub start : ℕ → List ℕ
-start height = codes "<svg xmlns='http://www.w3.org/2000/svg' viewBox='0 0 " ++ (decimal 1600 ++ (codes " " ++ (decimal height ++ codes "'>\n")))
-
--- how large it is, and what it shows
+-- the front of a drawing: how large it is, how it looks, its paper and its heading
 unfoldable pub opening : Shown → (count : ℕ) → List ℕ
 opening shown count =
     start (height_of shown count) ++ style
@@ -65,7 +33,7 @@ opening shown count =
     ++ text (codes "side") (codes "0") (record { x = 15; y = 30; size = 22 }) (heading shown)
     ++ codes "\n"
 
--- then come lanes and the time scale
+-- what a drawing has before its passes: its front, the lanes and the time scale
 abbrev pub head : Shown → (count : ℕ) → List ℕ
 head shown count = opening shown count ++ flat_map (lane_ground shown count) (lanes shown) ++ flat_map (tick shown count) (range_with_len 0 9)
 
@@ -76,7 +44,7 @@ tip shown i =
     codes "<title>" ++ (slice_index_or shown.labels i [] ++ (codes ": begin " ++ (decimal p.from ++
     (codes ", end " ++ (decimal p.to ++ (codes ", worth " ++ (decimal p.worth ++ (codes ", " ++ (lane_name (says shown.plan i) ++ codes "</title>")))))))))
 
--- what is written in the bar of pass i: its label and its worth; so many letters that it can't be read anyway count as 100
+-- what is written in the bar of pass i, its label and its worth; so many letters that it can't be read anyway count as 100
 unfoldable pub caption : Shown → (row i : ℕ) → List ℕ
 caption shown row i =
     let p : Pass = nth shown.passes i in
@@ -87,7 +55,7 @@ caption shown row i =
     (record { x = area.x + area.width / 2; y = area.y + 65; size = size_for letters area.width })
     (label ++ codes " (" ++ decimal p.worth ++ codes ")")
 
--- passes that are followed look otherwise than those that aren't
+-- how the passes of the lane d look: those that are followed otherwise than those that aren't
 abbrev pub look : ℕ → List ℕ
 look d = cond (d == 0) (codes "unfollowed") (codes "followed")
 
@@ -101,7 +69,7 @@ pass_group shown d row i =
 
 -- pass i stands in the row of the lane that the plan gives it
 abbrev pub pass_drawn : Shown → (levels : List ℕ) → (i : ℕ) → List ℕ
-pass_drawn shown levels i = pass_group shown (says shown.plan i) (row_of shown (says shown.plan i) (says levels i)) i
+pass_drawn shown levels i = pass_group shown (says shown.plan i) (row_of shown (says shown.plan i) (slice_index levels i)) i
 
 -- the whole document: a group for each pass, in the order of the list
 abbrev pub svg_text : Shown → (levels : List ℕ) → (count : ℕ) → List ℕ

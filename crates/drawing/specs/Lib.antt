@@ -2,8 +2,10 @@ pub mod Shown
 pub mod Columns
 pub mod Padding
 pub mod Rows
+pub mod Lanes
 pub mod Timelines
 pub mod Areas
 pub mod Levels
 pub mod Within
+pub mod Elements
 pub mod Drawings

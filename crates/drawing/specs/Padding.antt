@@ -9,6 +9,6 @@ spaces n = replicate n 32
 abbrev pub left : ℕ → List ℕ → List ℕ
 left width text = text ++ spaces (width - length text)
 
--- a text at the right of such a column
+-- a text at the right of a column of this width; what is longer stands as it is
 abbrev pub right : ℕ → List ℕ → List ℕ
 right width text = spaces (width - length text) ++ text

@@ -33,6 +33,6 @@ shown_of p =
 abbrev pub LanesThere : Shown → Type 0
 LanesThere shown = (i : ℕ) → i < length shown.passes → says shown.plan i ≤ shown.station.dishes
 
--- what the code draws from
+-- what the code draws from, without where it lies in memory
 abbrev pub view : Picture → Shown
 view p = record { labels = map string_bytes p.labels.now; passes = p.passes.now; plan = p.plan.now; station = p.station; worth = p.worth }

@@ -1,46 +1,33 @@
 -- The text of a timeline: a header, a scale, a row for each lane, and a key. Assumes nothing: these are definitions.
-use Rattle.std.specs.Prelude.{◌≡◌, ℕ, ◌+◌, ◌-◌, ◌/◌, ◌<◌, ◌≤◌, ◌↔◌, cond, List, [], ◌∷◌, ◌++◌, ◌==◌, length, codes, slice_index, slice_index_or, max}
+use Rattle.std.specs.Prelude.{◌≡◌, ℕ, ◌+◌, ◌/◌, ◌<◌, ◌≤◌, ◌↔◌, List, [], ◌∷◌, ◌++◌, length, codes, slice_index, slice_index_or, max}
 use Rattle.std.specs.Fmt.{decimal}
 use Rattle.std.specs.List.{fold, flat_map, range_with_len}
 use Rattle.passes.specs.declared.model.Pass.{Pass}
 use Rattle.passes.specs.Rule.{nth, says}
 use Rattle.drawing.specs.declared.scale.Scale.{Scale}
 use Rattle.drawing.specs.Columns.{columns, scale_of}
+use Rattle.drawing.specs.Lanes.{heading, lane_name, lanes}
 use Rattle.drawing.specs.Padding.{spaces, left, right}
 use Rattle.drawing.specs.Rows.{letter, row}
 use Rattle.drawing.specs.Shown.{Shown}
-
--- what it is all worth, and of what
-abbrev pub heading : Shown → List ℕ
-heading shown =
-    codes "worth " ++ (decimal shown.worth ++ (codes ", dishes " ++ (decimal shown.station.dishes ++
-    (codes ", turn " ++ (decimal shown.station.turn ++ (codes ", passes " ++ decimal (length shown.passes)))))))
 
 -- how wide the column of lanes is
 abbrev pub lane_width : ℕ
 lane_width = 13
 
--- the first second, the one in the middle and the last, each in its place
+-- the line of the scale: the first second, the one in the middle and the last, each in its place
 abbrev pub scale_line : Scale → List ℕ
 scale_line s = spaces (lane_width + 1) ++ left 32 (decimal s.first) ++ left 16 (decimal ((s.first + s.last) / 2)) ++ right 16 (decimal s.last) ++ codes "\n"
-
--- what a lane is called
-abbrev pub lane_name : ℕ → List ℕ
-lane_name d = cond (d == 0) (codes "not followed") (codes "dish " ++ decimal (d - 1))
 
 -- the row of a lane, as a line
 abbrev pub row_line : Shown → ℕ → List ℕ
 row_line shown d = left lane_width (lane_name d) ++ codes "|" ++ row shown d ++ codes "|\n"
 
--- a lane for each dish, and then the one of those that aren't followed
-abbrev pub lanes : Shown → List ℕ
-lanes shown = range_with_len 1 shown.station.dishes ++ 0 ∷ []
-
--- the longest label, and at least the word `name`
+-- how wide the column of labels is: as the longest label, and at least as the word `name`
 abbrev pub label_width : List (List ℕ) → ℕ
 label_width labels = fold (λ width label. max width (length label)) 4 labels
 
--- the head of the key
+-- an empty line, and the head of the key
 abbrev pub key_head : ℕ → List ℕ
 key_head width = codes "\n  " ++ left width (codes "name") ++ codes "  begin     end   worth\n"
 
@@ -56,11 +43,11 @@ key_line shown width i =
     ++ lane_name (says shown.plan i)
     ++ codes "\n"
 
--- a line for each pass, in the order of the list
+-- the key: its head, and a line for each pass, in the order of the list
 abbrev pub key : Shown → List ℕ
 key shown = key_head (label_width shown.labels) ++ flat_map (key_line shown (label_width shown.labels)) (range_with_len 0 (length shown.passes))
 
--- the whole
+-- a planned night as a timeline: its heading, the scale, a row for each lane, and the key
 abbrev pub timeline_text : Shown → List ℕ
 timeline_text shown = heading shown ++ codes "\n" ++ scale_line (scale_of shown.passes) ++ flat_map (row_line shown) (lanes shown) ++ key shown
 
@@ -68,11 +55,15 @@ timeline_text shown = heading shown ++ codes "\n" ++ scale_line (scale_of shown.
 abbrev pub LetterInItsRow : Shown → ℕ → Type 0
 LetterInItsRow shown i = (d : ℕ) → ((c : ℕ) × (c < columns) × (slice_index (row shown d) c ≡ letter i)) ↔ (says shown.plan i ≡ d)
 
--- that is so for each pass
+-- the letter of each pass stands in the row of its lane, and in no other row
 abbrev pub LettersInTheirRows : Shown → Type 0
 LettersInTheirRows shown = (i : ℕ) → i < length shown.passes → LetterInItsRow shown i
 
--- no row, and no line of the key, is longer than 80, with the end of its line
+-- no line of a timeline is longer than 80, with the end of its line: neither the heading, which ends one byte later, nor the scale, nor a row,
+-- nor the head of the key, which stands behind an empty line, nor a line of the key
 pub record LinesFit (shown : Shown) : Type 0 where
+  pub head : length (heading shown) ≤ 79
+  pub scale : length (scale_line (scale_of shown.passes)) ≤ 80
+  pub key_head : length (key_head (label_width shown.labels)) ≤ 81
   pub rows : (d : ℕ) → d ≤ shown.station.dishes → length (row_line shown d) ≤ 80
   pub key : (i : ℕ) → i < length shown.passes → length (key_line shown (label_width shown.labels) i) ≤ 80

@@ -16,6 +16,6 @@ pub record InItsLane (shown : Shown) (levels : List ℕ) (count i : ℕ) : Type 
   pub bar : Within (drawn_bar shown levels i) (ground_area shown count (says shown.plan i))
   pub tail : Within (drawn_tail shown levels i) (ground_area shown count (says shown.plan i))
 
--- that is so for each pass, whatever levels are chosen
+-- the bar and the tail of each pass lie within the ground of its lane, whatever levels are chosen
 abbrev pub InTheirLanes : Shown → Type 0
 InTheirLanes shown = (levels : List ℕ) (count i : ℕ) → LevelsFor shown levels count → i < length shown.passes → InItsLane shown levels count i

@@ -1,18 +1,18 @@
-ghost use Rattle.std.specs.Prelude.{◌≡◌, ℕ, ◌+◌, ◌<◌, ◌^◌, List, ◌++◌, IfOk, OnOk, string_bytes, length};
+ghost use Rattle.std.specs.Prelude.{◌≡◌, ℕ, ◌+◌, ◌<◌, ◌^◌, List, ◌++◌, IfOk, OnOk, string_bytes, length, slice_index};
 ghost use Rattle.std.specs.List.{flat_map, range_with_len};
-ghost use Rattle.passes.specs.Rule.{says};
-ghost use Rattle.drawing.specs.Drawings.{rect, spot, text, start, style, lane_ground, tick, opening, head, tip, caption, look, pass_group, pass_drawn, svg_text};
+ghost use Rattle.drawing.specs.Drawings.{lane_ground, tick, opening, head, tip, caption, look, pass_group, pass_drawn, svg_text};
 ghost use Rattle.drawing.specs.Levels.{LevelsFor};
 ghost use Rattle.drawing.specs.Shown.{LanesThere, shown_of, view};
-ghost use Rattle.drawing.specs.Timelines.{lanes};
+ghost use Rattle.drawing.specs.Lanes.{lanes};
 ghost use Rattle.drawing.specs.Within.{InTheirLanes};
 
 use crate::areas::{Area, Spot};
+use crate::elements::{FLAT, UPRIGHT, push_rect, push_start, push_style, push_text};
+use crate::lanes::lane_name;
 use crate::levels::Levels;
 use crate::picture::Picture;
 use crate::places::{BAR_HEIGHT, LANE_GAP, LEFT, TIME_WIDTH, WIDTH, is_upright, size_for};
 use crate::shown::picture_of;
-use crate::timelines::lane_name;
 use std::alloc::{AllocError, Global};
 use std::fmt::Write;
 use text::Planned;
@@ -30,7 +30,7 @@ const SIDE: u64 = 15;
 // How far below the top of a lane its name stands.
 const NAME_BELOW: u64 = 70;
 
-// How large it is.
+// How large the name of a lane is.
 const NAME_SIZE: u64 = 16;
 
 // How many steps the time scale has; there is a mark before each, and one after the last.
@@ -48,25 +48,11 @@ const MARK_WIDTH: u64 = 1;
 // Where the seconds of the marks stand.
 const SECOND_TOP: u64 = 68;
 
-// How large they are.
+// How large the seconds of the marks are.
 const SECOND_SIZE: u64 = 13;
 
 // With so many letters or more a label can't be read in a bar.
 const MANY_LETTERS: u64 = 100;
-
-// The angle of text that goes from left to right.
-const FLAT: &str = "0";
-
-// The angle of text that stands upright.
-const UPRIGHT: &str = "-90";
-
-// How the classes look: the ground, and what belongs to the time scale.
-const GROUND: &str =
-    "text{font-family:sans-serif;fill:#333}.mid{text-anchor:middle}.paper{fill:#fff}.lane{fill:#f4f6f8}.tick{fill:#d5dae0}";
-
-// How passes look.
-const PASSES: &str =
-    ".tail{fill:#9cc3e6;fill-opacity:.4}.bar{fill:#9cc3e6;stroke:#5b8db8}.unfollowed .bar{fill:#dcdcdc;stroke:#a6a6a6}";
 
 // A planned night as an SVG document: time from left to right, a lane for each dish, and one for the passes that aren't followed.
 pub fn svg(alloc: Global, planned: &Planned) -> Result<String, AllocError>
@@ -76,69 +62,6 @@ pub fn svg(alloc: Global, planned: &Planned) -> Result<String, AllocError>
 {
     let labels = planned.night().labels(alloc)?;
     picture_of(planned, &labels).svg(alloc)
-}
-
-// Begins the document, of this height.
-#[tactic(auto, unfolding(crate::specs::Drawings::start))]
-fn push_start(out: &mut String, height: u64) -> Result<(), AllocError>
-    ensures { OnOk result (string_bytes out.new ≡ string_bytes out.old ++ start height) }
-{
-    writeln!(
-        out,
-        "<svg xmlns='http://www.w3.org/2000/svg' viewBox='0 0 {WIDTH} {height}'>"
-    )
-}
-
-// Writes colours and the like.
-#[tactic(auto, unfolding(crate::specs::Drawings::style))]
-fn push_style(out: &mut String) -> Result<(), AllocError>
-    ensures { OnOk result (string_bytes out.new ≡ string_bytes out.old ++ style) }
-{
-    writeln!(out, "<style>{GROUND}{PASSES}</style>")
-}
-
-// Writes a rectangle.
-#[tactic(auto, unfolding(crate::specs::Drawings::rect))]
-fn push_rect(out: &mut String, class: &str, area: Area) -> Result<(), AllocError>
-    ensures { OnOk result (string_bytes out.new ≡ string_bytes out.old ++ rect class.now area) }
-{
-    let Area {
-        x,
-        y,
-        width,
-        height,
-    } = area;
-    write!(
-        out,
-        "<rect class='{class}' x='{x}' y='{y}' width='{width}' height='{height}'/>"
-    )
-}
-
-// Writes where text stands, and how large it is.
-#[tactic(auto, unfolding(crate::specs::Drawings::spot))]
-fn push_spot(out: &mut String, class: &str, at: Spot) -> Result<(), AllocError>
-    ensures { OnOk result (string_bytes out.new ≡ string_bytes out.old ++ spot class.now at) }
-{
-    let Spot { x, y, size } = at;
-    write!(
-        out,
-        "<text class='{class}' font-size='{size}' transform='translate({x} {y})"
-    )
-}
-
-// Writes text at a spot, turned by an angle.
-#[tactic(auto, unfolding(crate::specs::Drawings::text))]
-fn push_text(
-    out: &mut String,
-    class: &str,
-    angle: &str,
-    at: Spot,
-    words: &str,
-) -> Result<(), AllocError>
-    ensures { OnOk result (string_bytes out.new ≡ string_bytes out.old ++ text class.now angle.now at words.now) }
-{
-    push_spot(out, class, at)?;
-    write!(out, " rotate({angle})' dy='.35em'>{words}</text>")
 }
 
 // How passes of a lane look.
@@ -296,7 +219,7 @@ impl Picture<'_> {
         levels: &[usize],
     ) -> Result<(), AllocError>
         requires each { length levels.now ≡ length self.now.passes.now }
-        requires few { (i : ℕ) → says levels.now i < 2 ^ 8 }
+        requires few { (i : ℕ) → slice_index levels.now i < 2 ^ 8 }
         ensures { OnOk result (string_bytes out.new ≡ string_bytes out.old ++ flat_map (pass_drawn (view self.now) levels.now) (range_with_len 0 (length self.now.passes.now))) }
     {
         // Kept: a pass, its lane and its level are found by its place.

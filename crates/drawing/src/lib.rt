@@ -4,6 +4,8 @@
 mod areas;
 mod bars;
 mod drawings;
+mod elements;
+mod lanes;
 mod levels;
 mod padding;
 mod picture;

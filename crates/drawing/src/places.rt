@@ -34,7 +34,7 @@ pub(crate) const BAR_HEIGHT: u64 = 130;
 // How wide a bar is at least.
 const BAR_LEAST: u64 = 2;
 
-// How many letters a bar has room for, besides those of the label.
+// How many letters the worth, its brackets and the blank before them count as.
 const MORE_LETTERS: u64 = 6;
 
 // How much room a letter takes from left to right.
@@ -46,10 +46,10 @@ const FLAT_SIZE: u64 = 16;
 // The largest size of what stands upright.
 const MOST_SIZE: u64 = 13;
 
-// The smallest.
+// The smallest size of what stands upright.
 const LEAST_SIZE: u64 = 6;
 
-// What the letters of an upright text share for their sizes.
+// What is divided among the letters of an upright text, for its size.
 const UPRIGHT_ROOM: u64 = 210;
 
 // Where a row begins.

@@ -1,9 +1,11 @@
 ghost use Rattle.std.specs.Prelude.{◌≡◌, ◌<◌, ◌++◌, IfOk, OnOk, string_bytes, length};
-ghost use Rattle.drawing.specs.Timelines.{heading, scale_line, lane_name, row_line, lanes, label_width, key_head, key_numbers, key_line, key, timeline_text, LettersInTheirRows, LinesFit};
+ghost use Rattle.drawing.specs.Lanes.{lanes};
+ghost use Rattle.drawing.specs.Timelines.{scale_line, row_line, label_width, key_head, key_numbers, key_line, key, timeline_text, LettersInTheirRows, LinesFit};
 ghost use Rattle.std.specs.List.{flat_map};
 ghost use Rattle.drawing.specs.Columns.{scale_of};
 ghost use Rattle.drawing.specs.Shown.{LanesThere, shown_of, view};
 
+use crate::lanes::lane_name;
 use crate::padding::{push_byte, push_left, push_number_left, push_number_right, push_spaces};
 use crate::picture::Picture;
 use crate::rows::letter;
@@ -14,6 +16,7 @@ use std::alloc::{AllocError, Global};
 use std::fmt::Write;
 use text::Planned;
 
+// How wide the column of lanes is.
 const LANE_WIDTH: usize = 13;
 
 // A planned night as text, at most 80 wide: a row for each dish and one for the passes that aren't followed, and a key.
@@ -25,16 +28,6 @@ pub fn timeline(alloc: Global, planned: &Planned) -> Result<String, AllocError>
 {
     let labels = planned.night().labels(alloc)?;
     picture_of(planned, &labels).timeline(alloc)
-}
-
-// What a lane is called.
-pub(crate) fn lane_name(alloc: Global, lane: u8) -> Result<String, AllocError>
-    ensures { IfOk result (λ name. string_bytes name ≡ lane_name lane) }
-{
-    match lane.checked_sub(1) {
-        None => String::from_str(alloc, "not followed"),
-        Some(dish) => format!(in alloc; "dish {dish}"),
-    }
 }
 
 // Writes begin, end and worth of a pass.
@@ -57,17 +50,6 @@ impl Picture<'_> {
         self.push_rows(alloc, &mut out)?;
         self.push_key(alloc, &mut out)?;
         Ok(out)
-    }
-
-    // What it is all worth, and of what.
-    pub(crate) fn heading(&self, alloc: Global) -> Result<String, AllocError>
-        ensures { IfOk result (λ words. string_bytes words ≡ heading (view self.now)) }
-    {
-        let (dishes, turn, count) = (self.station.dishes, self.station.turn, self.passes.len());
-        format!(in alloc;
-            "worth {}, dishes {dishes}, turn {turn}, passes {count}",
-            self.worth
-        )
     }
 
     // Writes the scale.

@@ -11,7 +11,7 @@ use Rattle.drawing.specs.declared.scale.Scale.{Scale}
 use Rattle.drawing.specs.Columns.{place_on, scale_of}
 use Rattle.drawing.specs.Rows.{bar_from, bars_from, bars_of}
 use Rattle.drawing.specs.Shown.{view}
-use Rattle.drawing.proofs.Lanes.{in_lane-drop, placed, passed}
+use Rattle.drawing.proofs.LaneBars.{in_lane-drop, placed, passed}
 use Rattle.drawing.proofs.picture.Picture.bars.Goals as goal
 use Rattle.drawing.proofs.picture.Picture.bars.Goals.{then-self-place+in_ok-push, else-self-place}
 

@@ -1,4 +1,4 @@
--- The bars of a lane, one more at a time.
+-- The bars of a lane, one more at a time. Assumes nothing.
 use Rattle.std.proofs.Common.{◌≡◌, ℕ, suc, ◌+◌, ◌-◌, ◌<◌, ◌≤◌, true, false, cond, ◌==◌, List, [], ◌∷◌, ◌++◌, length, drop, refl, sym, ◌∙◌, add-one, append_assoc, arith, drop-cons, eq-eqb, ne_eqb, min, max, ◌≢◌}
 use Rattle.std.proofs.lemmas.List.Sums.{sum_by-cons, sum_by-drop_more}
 use Rattle.passes.specs.declared.model.Pass.{Pass}
