@@ -12,6 +12,8 @@ pub mod TakingLists
 pub mod Cutting
 pub mod RoundTrip
 pub mod Spelled
+pub mod PlainWords
+pub mod ShortLines
 pub mod FirstFault
 pub mod Refusing
 pub mod Rules

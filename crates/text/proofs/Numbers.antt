@@ -1,28 +1,27 @@
 -- Words that are numbers. Assumes nothing.
-use Rattle.std.proofs.Common.{◌≡◌, ℕ, ◌^◌, ◌<◌, Bool, true, false, List, [], ◌∷◌, length, get_or, Ok, Err, Result, refl, sym, ap, ◌∙◌, ◌≢◌, arith, rules, MatchResult}
+use Rattle.std.proofs.Common.{◌≡◌, ℕ, ◌^◌, ◌<◌, Bool, true, false, List, [], ◌∷◌, length, get_or, Ok, Err, Result, refl, sym, ap, ◌∙◌, ◌≢◌, arith, MatchResult}
 use Rattle.std.specs.Prelude.{IsUtf8}
 use Rattle.std.specs.Str.{all_ascii_digits}
-use Rattle.std.specs.Str.Parse.{ParsesUnsigned}
+use Rattle.std.specs.Str.Parse.{digits_value, ParsesUnsigned}
 use Rattle.std.proofs.lemmas.Bool.Decides.{nat_tests}
 use Rattle.std.proofs.lemmas.Fmt.{IsAscii-from_digits}
 use Rattle.std.proofs.lemmas.Result.{OkIff-at_ok, OkIff-at_err}
 use Rattle.std.proofs.lemmas.Str.{IsUtf8-from_ascii}
-use Rattle.std.proofs.lemmas.Str.Parse.{IsNumeralModel, numerals_by_fold, parse_plain}
+use Rattle.std.proofs.lemmas.Str.Parse.{IsNumeralModel, numerals_by_value, parse_plain, tells_all_ascii_digits}
 use Rattle.text.specs.declared.faults.LineFault.{LineFault}
 use Rattle.text.specs.declared.faults.LineFault.TheVariants.{BadNumber}
-use Rattle.text.specs.Words.{read_on, number_at}
+use Rattle.text.specs.Words.{number_at}
 
--- std's digits and their value are ours
-pub own : IsNumeralModel (λ ds. all_ascii_digits ds ≡ true) (read_on 0)
-unfolding read_on
-own = numerals_by_fold _ (search rules) read_on (search rules)
+-- digits are told by our test, and their value is std's
+pub own : IsNumeralModel (λ ds. all_ascii_digits ds ≡ true) (digits_value 10)
+own = numerals_by_value _ tells_all_ascii_digits
 
 first_digit : (w : List ℕ) → all_ascii_digits w ≡ true → get_or w 0 0 ≡ 43 → ⊥
 first_digit [] d e = omega (arith, e)
 first_digit (b ∷ bs) d e = grind (arith, nat_tests)
 
 -- a word that isn't digits, or is none, or is too large
-pub no_number : (w : List ℕ) → (all_ascii_digits w ≡ true → 0 < length w → read_on 0 w < 2 ^ 32 → ⊥) → number_at w ≡ Err BadNumber
+pub no_number : (w : List ℕ) → (all_ascii_digits w ≡ true → 0 < length w → digits_value 10 w < 2 ^ 32 → ⊥) → number_at w ≡ Err BadNumber
 unfolding number_at
 no_number w none = by_cases (all_ascii_digits w) refl
   where
@@ -30,7 +29,7 @@ no_number w none = by_cases (all_ascii_digits w) refl
     by_cases true e = let h = none e in grind (arith, nat_tests)
     by_cases false e = grind (arith, nat_tests)
 
-pub is_number : (w : List ℕ) → all_ascii_digits w ≡ true → 0 < length w → read_on 0 w < 2 ^ 32 → number_at w ≡ Ok (read_on 0 w)
+pub is_number : (w : List ℕ) → all_ascii_digits w ≡ true → 0 < length w → digits_value 10 w < 2 ^ 32 → number_at w ≡ Ok (digits_value 10 w)
 unfolding number_at
 is_number w d some fits = grind (arith, nat_tests)
 
@@ -46,12 +45,12 @@ pub parsed : {E : Type 0} (w : List ℕ) (r : Result ℕ E) (s : Result ℕ Line
 parsed {E} w (Ok n) s plain parses is =
     let r : Result ℕ E = Ok n in
     let same : r ≡ Ok n = refl in
-    let h = OkIff-at_ok r _ (read_on 0 w) n (parse_plain own {E = E} 32 w r parses plain) same in
+    let h = OkIff-at_ok r _ (digits_value 10 w) n (parse_plain own {E = E} 32 w r parses plain) same in
     is ∙ ap Ok h.1 ∙ sym (is_number w h.0.0 h.0.1 h.0.2)
 parsed {E} w (Err e) s plain parses is =
     let r : Result ℕ E = Err e in
     let same : r ≡ Err e = refl in
-    is ∙ sym (no_number w (λ d some fits. OkIff-at_err r _ (read_on 0 w) e (parse_plain own {E = E} 32 w r parses plain) same (d, some, fits)))
+    is ∙ sym (no_number w (λ d some fits. OkIff-at_err r _ (digits_value 10 w) e (parse_plain own {E = E} 32 w r parses plain) same (d, some, fits)))
 
 -- the test for a sign went the other way
 pub unsigned : (w : List ℕ) (r : Bool) → (get_or w 0 0 ≡ 43 → r ≡ true) → r ≡ false → get_or w 0 0 ≢ 43

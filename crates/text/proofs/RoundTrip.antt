@@ -20,7 +20,9 @@ use Rattle.text.specs.Reading.{numbers_of, names_in, taken, read_text}
 use Rattle.text.specs.Statements.{Listed, RoundTrip}
 use Rattle.text.specs.Writing.{station_words, pass_words, spaced, lines, written}
 use Rattle.text.proofs.Cutting.{all_words, all_lines, words_back, lines_back}
-use Rattle.text.proofs.Spelled.{said_of, station_back, pass_back, station_plain, pass_plain, station_short, pass_short}
+use Rattle.text.proofs.PlainWords.{station_plain, pass_plain}
+use Rattle.text.proofs.ShortLines.{station_short, pass_short}
+use Rattle.text.proofs.Spelled.{said_of, station_back, pass_back}
 use Rattle.text.proofs.TakingLists.{fours, accepted}
 
 -- a line made of words is read as what they say

@@ -1,7 +1,8 @@
 -- The lines of a text, the words of a line, and the numbers that words stand for. Assumes nothing: these are definitions.
-use Rattle.std.specs.Prelude.{ℕ, ◌+◌, ◌-◌, ◌*◌, ◌^◌, Bool, not, ◌&&◌, ◌||◌, List, [], ◌∷◌, length, filter, ◌==◌, nat_le, nat_lt, Ok, Err, Result, if◌then◌else◌}
+use Rattle.std.specs.Prelude.{ℕ, ◌^◌, Bool, not, ◌&&◌, ◌||◌, List, length, filter, ◌==◌, nat_le, nat_lt, Ok, Err, Result, if◌then◌else◌}
 use Rattle.std.specs.List.{slice_split}
 use Rattle.std.specs.Str.{all_ascii_digits}
+use Rattle.std.specs.Str.Parse.{digits_value}
 use Rattle.text.specs.declared.faults.LineFault.{LineFault}
 use Rattle.text.specs.declared.faults.LineFault.TheVariants.{BadNumber, BadName}
 use Rattle.text.specs.Names.{is_name}
@@ -22,14 +23,9 @@ is_blank b = b == 32 || (b == 9 || b == 13)
 abbrev pub words_of : List ℕ → List (List ℕ)
 words_of line = filter (λ w. not (length w == 0)) (slice_split is_blank line)
 
--- what digits stand for, read on from a number that was read before
-unfoldable pub read_on : ℕ → List ℕ → ℕ
-read_on n [] = n
-read_on n (c ∷ cs) = read_on (10 * n + (c - 48)) cs
-
 -- the number that a word stands for: it is digits, and the number is below 2 ^ 32
 unfoldable pub number_at : List ℕ → Result ℕ LineFault
-number_at w = if nat_le 1 (length w) && (all_ascii_digits w && nat_lt (read_on 0 w) (2 ^ 32)) then Ok (read_on 0 w) else Err BadNumber
+number_at w = if nat_le 1 (length w) && (all_ascii_digits w && nat_lt (digits_value 10 w) (2 ^ 32)) then Ok (digits_value 10 w) else Err BadNumber
 
 -- the name that a word is, if it is one
 unfoldable pub name_at : List ℕ → Result (List ℕ) LineFault
