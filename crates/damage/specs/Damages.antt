@@ -1,5 +1,5 @@
 -- What is done to a text. Assumes nothing: these are definitions.
-use Rattle.std.specs.Prelude.{◌≡◌, ◌≢◌, ◌⊎◌, ℕ, ◌^◌, ◌<◌, ◌≤◌, zero, suc, List, [], length, slice_index, slice_index_or, bit_xor, remove, insert, swap}
+use Rattle.std.specs.Prelude.{◌≡◌, ◌≢◌, ◌⊎◌, ℕ, ◌^◌, ◌<◌, zero, suc, List, [], length, slice_index, slice_index_or, bit_xor, remove, insert, swap}
 use Rattle.std.specs.List.{join_with_byte}
 use Rattle.text.specs.Words.{lines_of}
 

@@ -53,6 +53,7 @@ drawn_tail shown levels i = tail_area shown (says shown.plan i) (row_of shown (s
 abbrev pub is_upright : (letters width : ℕ) → Bool
 is_upright letters width = nat_lt width (10 * (letters + 6))
 
--- the size of what is written in a bar: 16 from left to right; upright from 6 to 13, the less the more letters and the narrower the bar
+-- the size of what is written in a bar: 16 from left to right; upright from 6 to 13, the less the more letters and the
+-- narrower the bar
 abbrev pub size_for : (letters width : ℕ) → ℕ
 size_for letters width = cond (is_upright letters width) (max (min (min (210 / (letters + 6)) width) 13) 6) 16

@@ -44,7 +44,7 @@ tip shown i =
     codes "<title>" ++ (slice_index_or shown.labels i [] ++ (codes ": begin " ++ (decimal p.from ++
     (codes ", end " ++ (decimal p.to ++ (codes ", worth " ++ (decimal p.worth ++ (codes ", " ++ (lane_name (says shown.plan i) ++ codes "</title>")))))))))
 
--- what is written in the bar of pass i, its label and its worth; so many letters that it can't be read anyway count as 100
+-- what is written in the bar of pass i, its label and its worth; more letters than can be read count as 100
 unfoldable pub caption : Shown → (row i : ℕ) → List ℕ
 caption shown row i =
     let p : Pass = nth shown.passes i in

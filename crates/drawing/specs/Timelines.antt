@@ -59,8 +59,8 @@ LetterInItsRow shown i = (d : ℕ) → ((c : ℕ) × (c < columns) × (slice_ind
 abbrev pub LettersInTheirRows : Shown → Type 0
 LettersInTheirRows shown = (i : ℕ) → i < length shown.passes → LetterInItsRow shown i
 
--- no line of a timeline is longer than 80, with the end of its line: neither the heading, which ends one byte later, nor the scale, nor a row,
--- nor the head of the key, which stands behind an empty line, nor a line of the key
+-- no line of a timeline is longer than 80, with the end of its line: neither the heading, which ends one byte later,
+-- nor the scale, nor a row, nor the head of the key, which stands behind an empty line, nor a line of the key
 pub record LinesFit (shown : Shown) : Type 0 where
   pub head : length (heading shown) ≤ 79
   pub scale : length (scale_line (scale_of shown.passes)) ≤ 80

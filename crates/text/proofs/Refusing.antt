@@ -1,5 +1,5 @@
 -- A text whose lines can be read is refused for what they say, and never for a room. Assumes nothing.
-use Rattle.std.proofs.Common.{◌≡◌, Bool, true, false, cond, ℕ, zero, suc, ◌+◌, ◌<◌, ◌⊎◌, inl, inr, List, [], ◌∷◌, length, take, get_or, Some, None, Option, Ok, Err, Result, refl, sym, ap, subst, ◌∙◌, arith}
+use Rattle.std.proofs.Common.{◌≡◌, Bool, true, false, cond, ℕ, ◌+◌, List, [], ◌∷◌, Some, None, Option, Ok, Err, Result, refl, sym, ap, ◌∙◌}
 use Rattle.std.specs.Prelude.{option_map}
 use Rattle.passes.specs.declared.refusals.Refusal.{Refusal}
 use Rattle.passes.specs.declared.refusals.Refusal.TheVariants.{BadDishes, BadTurning, BadPass, BadRoom}
@@ -7,16 +7,14 @@ use Rattle.passes.specs.Checks.{dishes_ok, turning_ok}
 use Rattle.passes.specs.Numbers.{first_fault}
 use Rattle.passes.specs.Refusals.{or_else, station_refused, list_refused, refused}
 use Rattle.text.specs.declared.draft.StationLine.{StationLine}
-use Rattle.text.specs.declared.faults.BadLine.{BadLine}
 use Rattle.text.specs.declared.faults.LineFault.{LineFault}
-use Rattle.text.specs.declared.faults.LineFault.TheVariants.{NoStation}
 use Rattle.text.specs.declared.faults.ListRule.{ListRule}
 use Rattle.text.specs.declared.faults.TurnedAway.{TurnedAway}
-use Rattle.text.specs.declared.faults.TurnedAway.TheVariants.{Unreadable, Refused}
+use Rattle.text.specs.declared.faults.TurnedAway.TheVariants.{Refused}
 use Rattle.text.specs.Drafts.{Draft, Entry, empty, at_line, with_line, with_lines, draft_of}
 use Rattle.text.specs.Blame.{line_about, rule_about}
 use Rattle.text.specs.Reading.{numbers_of, last_line, taken_with, taken, read_text}
-use Rattle.text.specs.Statements.{StopsAt, HasNoStation, FirstAtFault, UnreadableFirst, RefusedFor, RefusedForWhatItSays, NoRoom}
+use Rattle.text.specs.Statements.{RefusedFor, RefusedForWhatItSays, NoRoom}
 use Rattle.text.specs.Words.{lines_of}
 use Rattle.text.proofs.FirstFault.{turned, away_for}
 

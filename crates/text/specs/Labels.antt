@@ -1,4 +1,5 @@
--- What passes are called: their name, and where another has the same name their begin too. Assumes nothing: these are definitions.
+-- What passes are called: their name, and where another has the same name their begin too.
+-- Assumes nothing: these are definitions.
 use Rattle.std.specs.Prelude.{ℕ, Bool, List, map, ◌++◌, codes, bytes_eq, nat_lt, if◌then◌else◌}
 use Rattle.std.specs.List.{count_by, zip}
 use Rattle.std.specs.Fmt.{decimal}

@@ -26,15 +26,16 @@ pub data Said : Type 0 where
 abbrev pub word : List (List ℕ) → ℕ → List ℕ
 word ws i = get_or ws i []
 
--- the dishes that words name, as marks beside those of the dishes named before: bit d for dish d. A dish is below 32, so that its
--- mark has its place in 32 bits
+-- the dishes that words name, as marks beside those of the dishes named before: bit d for dish d. A dish is below 32,
+-- so that its mark has its place in 32 bits
 unfoldable pub marks_from : ℕ → List (List ℕ) → Result ℕ LineFault
 marks_from marks [] = Ok marks
 marks_from marks (w ∷ ws) = do
   dish ← number_at w
   if nat_lt dish 32 then (if marks / 2 ^ dish % 2 == 1 then Err DishTwice else marks_from (bit_or marks (2 ^ dish)) ws) else Err BadDish
 
--- the station that words say behind the word `dishes`, which begins a line: how many dishes, `turn`, and the seconds that they take to turn
+-- the station that words say behind the word `dishes`, which begins a line: how many dishes, `turn`, and the seconds
+-- that they take to turn
 unfoldable pub station_at : List (List ℕ) → Result Said LineFault
 station_at ws =
     if length ws == 3 && bytes_eq (word ws 1) (codes "turn")
@@ -44,8 +45,8 @@ station_at ws =
       Ok (station dishes turn))
     else Err NotStation
 
--- the pass that words say behind the word `pass`: a name, the second in which it begins, the one in which it has ended, `worth`, how
--- much, `dishes`, and those that may follow it
+-- the pass that words say behind the word `pass`: a name, the second in which it begins, the one in which it has ended,
+-- `worth`, how much, `dishes`, and those that may follow it
 unfoldable pub pass_at : List (List ℕ) → Result Said LineFault
 pass_at ws =
     if nat_le 6 (length ws) && (bytes_eq (word ws 3) (codes "worth") && bytes_eq (word ws 5) (codes "dishes"))

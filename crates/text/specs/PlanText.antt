@@ -26,8 +26,8 @@ left_line ls ds = codes "not followed:" ++ (row 0 ls ds ++ codes "\n")
 abbrev pub worth_line : ℕ → List ℕ
 worth_line worth = codes "worth " ++ (decimal worth ++ codes "\n")
 
--- what passes are called, and a plan for so many dishes, as text: what it is worth, a line for each dish, and one for the passes
--- that are not followed
+-- what passes are called, and a plan for so many dishes, as text: what it is worth, a line for each dish, and one for
+-- the passes that are not followed
 abbrev pub plan_lines : List (List ℕ) → Plan → (dishes worth : ℕ) → List ℕ
 plan_lines ls ds dishes worth = worth_line worth ++ (flat_map (dish_line ls ds) (range_with_len 0 dishes) ++ left_line ls ds)
 

@@ -38,8 +38,8 @@ pub record HasNoStation (text : List ℕ) (i : ℕ) : Type 0 where
   pub none : all.station ≡ None
   pub last : i ≡ last_line text
 
--- the line for which a text is turned away is the first that can't be read, with what is wrong there; or it is the one in which a
--- text without a station ends
+-- the line for which a text is turned away is the first that can't be read, with what is wrong there; or it is the one
+-- in which a text without a station ends
 abbrev pub FirstAtFault : Type 0
 FirstAtFault =
     (text : List ℕ) (bad : BadLine) → read_text text ≡ Err (Unreadable bad) →
@@ -50,8 +50,8 @@ abbrev pub UnreadableFirst : Type 0
 UnreadableFirst =
     (text : List ℕ) (i : ℕ) (fault : LineFault) → StopsAt text i fault → read_text text ≡ Err (Unreadable (record { line = i; fault = fault }))
 
--- all lines of a text can be read, one says a station, and this refusal applies to what they say; the line is that of the station
--- or of the pass that it is about
+-- all lines of a text can be read, one says a station, and this refusal applies to what they say; the line is that of
+-- the station or of the pass that it is about
 pub record RefusedFor (text : List ℕ) (why : Refusal) (line : ℕ) (rule : ListRule) : Type 0 where
   pub all : Draft
   pub station : StationLine
