@@ -14,7 +14,7 @@ use passes::{MAX_DISHES, Night, Refusal};
 use pruning::{Priced, WIDE_PASSES, WideNight, bids_for};
 
 // How many states the search remembers.
-const PLACES: usize = 4096;
+const PLACES: usize = 1024;
 
 // What came of planning.
 // Kept: a kind and a number, and no `Result`: the form of the entry is fixed, so that C could call it.

@@ -22,7 +22,7 @@ const PARTS: u64 = 1 << 16;
 const FIRST_STEP: u64 = PARTS / 2;
 
 // Once in so many rounds it is looked whether the best plan so far is worth as much as any.
-const BETWEEN_BOUNDS: usize = 8;
+const BETWEEN_BOUNDS: usize = 4;
 
 // An auction of a night's passes, under way.
 #[derive(Drop)]
@@ -61,24 +61,29 @@ impl Auction<'_, '_> {
     fn run(&self) -> Bids
         ensures { NoneAbove SCALE self.now.prepared.night.passes.now result.prices }
     {
-        let mut prices = [0; WIDE_PASSES];
-        let mut given = [0; WIDE_PASSES];
+        let mut bids = Bids {
+            prices: [0; WIDE_PASSES],
+            given: [0; WIDE_PASSES],
+        };
+        let mut best = [0; WIDE_PASSES];
         let mut step = FIRST_STEP;
         let mut most = 0;
         for number in 0..ROUNDS {
-            let bids = self.round(number, step, &prices);
-            prices = bids.prices;
+            self.hold_round(number, step, &mut bids);
             step = step * 54 / 64;
             let worth = self.worth_of(&bids);
             if worth > most {
                 most = worth;
-                given = bids.given;
+                best = bids.given;
             }
-            if number % BETWEEN_BOUNDS == 0 && self.bound(&prices) <= most {
+            if number % BETWEEN_BOUNDS == 0 && self.bound(&bids.prices) <= most {
                 break;
             }
         }
-        Bids { prices, given }
+        Bids {
+            prices: bids.prices,
+            given: best,
+        }
     }
 
     // No plan is worth more than this.
@@ -92,28 +97,24 @@ impl Auction<'_, '_> {
         priced.bound(0, priced.start())
     }
 
-    // A round, in which each dish asks once. In each round another one asks first.
-    fn round(&self, number: usize, step: u64, prices: &[u64; WIDE_PASSES]) -> Bids
-        requires before { NoneAbove SCALE self.now.prepared.night.passes.now prices.now }
-        ensures { NoneAbove SCALE self.now.prepared.night.passes.now result.prices }
+    // A round, in which each dish asks once, and passes are given anew. In each round another dish asks first.
+    fn hold_round(&self, number: usize, step: u64, bids: &mut Bids)
+        requires before { NoneAbove SCALE self.now.prepared.night.passes.now bids.old.prices }
+        ensures { NoneAbove SCALE self.now.prepared.night.passes.now bids.new.prices }
     {
         let count = self.prepared.night.turns.len();
-        let mut bids = Bids {
-            prices: *prices,
-            given: [0; WIDE_PASSES],
-        };
+        bids.given = [0; WIDE_PASSES];
         for asking in 0..count {
             let dish = (number % count + asking) % count;
-            bids = self.after_asking(dish, step, &bids);
+            self.ask(dish, step, bids);
         }
-        bids
     }
 
-    // The bids after a dish has asked for passes.
-    fn after_asking(&self, dish: usize, step: u64, bids: &Bids) -> Bids
+    // Lets a dish ask for passes.
+    fn ask(&self, dish: usize, step: u64, bids: &mut Bids)
         requires there { dish < length self.now.prepared.night.turns.now }
-        requires before { NoneAbove SCALE self.now.prepared.night.passes.now bids.now.prices }
-        ensures { NoneAbove SCALE self.now.prepared.night.passes.now result.prices }
+        requires before { NoneAbove SCALE self.now.prepared.night.passes.now bids.old.prices }
+        ensures { NoneAbove SCALE self.now.prepared.night.passes.now bids.new.prices }
     {
         let passes = self.prepared.night.passes;
         let count = passes.len();
@@ -126,32 +127,29 @@ impl Auction<'_, '_> {
             .night
             .alone(dish)
             .follow_table(&after[dish][..count], &table[..count + 1], asked);
-        self.moved(asked, step, bids)
+        self.grant(asked, step, bids);
     }
 
-    // The bids, once a dish has asked for the passes that its plan follows.
+    // Gives a dish the passes that it asked for and that no other dish has, and moves all prices.
     // Kept: by index, as the rooms are arrays, of which the front is used.
-    fn moved(&self, asked: &[u8], step: u64, bids: &Bids) -> Bids
+    fn grant(&self, asked: &[u8], step: u64, bids: &mut Bids)
         requires one_each { length asked.now ≡ length self.now.prepared.night.passes.now }
-        requires before { NoneAbove SCALE self.now.prepared.night.passes.now bids.now.prices }
-        ensures { NoneAbove SCALE self.now.prepared.night.passes.now result.prices }
+        requires before { NoneAbove SCALE self.now.prepared.night.passes.now bids.old.prices }
+        ensures { NoneAbove SCALE self.now.prepared.night.passes.now bids.new.prices }
     {
         let others = (self.prepared.night.turns.len() as u64).saturating_sub(1);
-        let mut prices = bids.prices;
-        let mut given = bids.given;
         for (i, pass) in self.prepared.night.passes.iter().enumerate() {
             let change = self.strides[i].saturating_mul(step) / PARTS;
             if asked[i] > 0 {
                 let rise = change.saturating_mul(others);
-                prices[i] = prices[i].saturating_add(rise).min(full_price(pass));
-                if given[i] == 0 {
-                    given[i] = asked[i];
+                bids.prices[i] = bids.prices[i].saturating_add(rise).min(full_price(pass));
+                if bids.given[i] == 0 {
+                    bids.given[i] = asked[i];
                 }
             } else {
-                prices[i] = prices[i].saturating_sub(change);
+                bids.prices[i] = bids.prices[i].saturating_sub(change);
             }
         }
-        Bids { prices, given }
     }
 
     // What the passes that are given are worth together. Only that it fits is promised, since nothing rests on it.

@@ -1,5 +1,5 @@
 use Rattle.pruning.specs.Prices.{NoneAbove}
-use Rattle.pruning.proofs.auction.Auction.round.Given as goal
+use Rattle.pruning.proofs.auction.Auction.hold_round.Given as goal
 
 -- no price is above what its pass is worth
 abbrev pub invariant-loop-asking : goal.invariant-loop-asking

@@ -1,6 +1,6 @@
 use Rattle.std.proofs.Common.{◌≡◌, length, take, arith, rules}
 use Rattle.pruning.proofs.TableBounds.{moderate_fits}
-use Rattle.pruning.proofs.auction.Auction.after_asking.Goals as goal
+use Rattle.pruning.proofs.auction.Auction.ask.Goals as goal
 
 pub table_of-table-requires-clause-sum_fits : goal.table_of-table-requires-clause-sum_fits
 table_of-table-requires-clause-sum_fits c =

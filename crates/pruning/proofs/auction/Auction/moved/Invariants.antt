@@ -1,7 +1,0 @@
-use Rattle.std.proofs.Common.{◌≡◌, length}
-use Rattle.pruning.specs.Prices.{NoneAbove}
-use Rattle.pruning.proofs.auction.Auction.moved.Given as goal
-
--- no price is above what its pass is worth, moved or not
-abbrev pub invariant-loop-i : goal.invariant-loop-i
-invariant-loop-i l = (length l.prices ≡ 128) × (length l.given ≡ 128) × NoneAbove 1024 l.self.prepared.night.passes.now l.prices
