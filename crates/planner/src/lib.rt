@@ -16,7 +16,7 @@ pub use scheduling::{FreeFrom, Scheduling};
 mod tests {
     use super::*;
     use engine::{Gained, Summed, gain_most};
-    use passes::{Pass, Refusal};
+    use passes::{Night, Pass, Refusal};
     use pruning::{WIDE_PASSES, WideNight};
     use std::array;
     use std::test::Fail;
@@ -96,6 +96,16 @@ mod tests {
         assert_eq!(rt; room, [9; 3]);
     }
 
+    #[test]
+    fn a_room_turned_away(rt: HostRuntime) -> Result<(), Fail> {
+        let night = Night::read(2, 0, &MARKED).map_err(|_| "not read")?;
+        let mut room = [9; 4];
+        assert_eq!(rt; plan_taken(&night, &mut room), Err(Refusal::BadRoom(4)));
+        assert_eq!(rt; room, [9; 4]);
+        assert_eq!(rt; plan_taken(&night, &mut room[..3]), Ok(15));
+        Ok(())
+    }
+
     // Passes that begin so many seconds apart and last so long or up to twice as long, with lengths, worths and marks that look like no pattern.
     fn scattered(apart: u32, length: u32, steps: [u32; 2], marks: [u32; 3]) -> [[u32; 4]; 48] {
         array::from_fn(|i| {
@@ -116,10 +126,10 @@ mod tests {
     #[test]
     fn few_states_are_visited(rt: HostRuntime) -> Result<(), Fail> {
         for (passes, worth, visited) in [
-            (scattered(100, 900, [113, 73], [3, 5, 15]), 1075, 816),
-            (scattered(60, 300, [37, 61], [15, 7, 14]), 1366, 1188),
-            (scattered(200, 900, [89, 61], [15, 7, 14]), 1609, 782),
-            (scattered(100, 600, [113, 61], [15, 7, 14]), 1273, 841),
+            (scattered(100, 900, [113, 73], [3, 5, 15]), 1075, 812),
+            (scattered(60, 300, [37, 61], [15, 7, 14]), 1366, 1198),
+            (scattered(200, 900, [89, 61], [15, 7, 14]), 1609, 785),
+            (scattered(100, 600, [113, 61], [15, 7, 14]), 1273, 850),
             // here the first plan turns out to be a best one at once
             (scattered(100, 600, [113, 97], [15, 15, 15]), 1134, 0),
         ] {

@@ -5,6 +5,7 @@ use super::*;
 use engine::{Gained, Summed, gain_most};
 use passes::Pass;
 use std::array;
+use std::test::Fail;
 
 // Eight passes at a time, of ten seconds each and ten seconds apart, which all eight dishes may follow.
 fn by_eights<const N: usize>() -> [Pass; N]
@@ -24,18 +25,22 @@ fn by_eights<const N: usize>() -> [Pass; N]
 // What is gained at most by dishes that take so long to turn, and how many states are visited for it.
 fn gained(turns: &[u32], passes: &[Pass]) -> Option<Gained> {
     let night = WideNight::new(turns, passes)?;
-    let count = passes.len();
-    let mut bids = bids_for(night);
+    Some(gained_by(night, bids_for(night)))
+}
+
+// The same, at given prices and with a given plan as the first to be beaten.
+fn gained_by(night: WideNight, mut bids: Bids) -> Gained {
+    let count = night.passes.len();
     let problem = Summed {
         gains: Priced::new(night, &bids.prices),
     };
     let mut made = [0; WIDE_PASSES];
-    Some(gain_most(
+    gain_most(
         &problem,
         &mut made[..count],
         &mut [None; 256],
         &mut bids.given[..count],
-    ))
+    )
 }
 
 #[test]
@@ -62,6 +67,20 @@ fn nothing_to_gain(rt: HostRuntime) {
         Some(Gained { most, visited: 0 })
     );
     assert_eq!(rt; gained(&[5; 8], &[]), Some(Gained { most, visited: 1 }));
+}
+
+// A price that is above what its pass is worth counts for no more than that.
+#[test]
+fn prices_above_worth(rt: HostRuntime) -> Result<(), Fail> {
+    let passes = by_eights::<9>();
+    let turns = [11; 8];
+    let night = WideNight::new(&turns, &passes).ok_or("no night")?;
+    let bids = Bids {
+        prices: [u64::MAX; WIDE_PASSES],
+        given: [0; WIDE_PASSES],
+    };
+    assert_eq!(rt; gained_by(night, bids).most, Some(8 * u32::MAX as u64));
+    Ok(())
 }
 
 #[test]
