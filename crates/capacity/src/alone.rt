@@ -1,7 +1,7 @@
 // One dish alone: a table of the most that it can gain from each pass on, and the plan that follows from it.
 ghost use Rattle.std.specs.Prelude.{◌≡◌, ℕ, ◌+◌, ◌^◌, ◌<◌, ◌≤◌, ◌&&◌, nat_lt, List, length, take, sum, MatchResult};
 ghost use Rattle.std.specs.Result.{result_err};
-ghost use Rattle.passes.specs.Checks.{most_passes};
+ghost use Rattle.passes.specs.Checks.{max_passes};
 ghost use Rattle.passes.specs.Follow.{may};
 ghost use Rattle.passes.specs.Nights.{passes_of, station_of};
 ghost use Rattle.passes.specs.Numbers.{passes_in};
@@ -54,7 +54,7 @@ fn plan_alone(night: &Night, table: &mut [u64; MAX_ENTRIES], room: &mut [u8]) ->
 // Kept: by index. With `gains.iter_mut().zip(passes)` the proof knows nothing of the gains after the loop, and with `array::from_fn` nothing of
 // the passes in the closure.
 fn worths_of(passes: &[Pass]) -> [u64; MAX_PASSES]
-    requires { length passes.now ≤ most_passes }
+    requires { length passes.now ≤ max_passes }
     ensures { take (length passes.now) result ≡ worths passes.now }
 {
     let mut gains = [0; MAX_PASSES];

@@ -1,5 +1,5 @@
 ghost use Rattle.std.specs.Prelude.{◌≡◌, true, ◌<◌, ◌≤◌, [], length, map, slice_index_or, string_bytes};
-ghost use Rattle.passes.specs.Checks.{most_passes, all_in_range};
+ghost use Rattle.passes.specs.Checks.{max_passes, all_in_range};
 
 use passes::{Pass, Station};
 
@@ -12,7 +12,7 @@ pub(crate) struct Picture<'a> {
     pub(crate) station: Station,
     pub(crate) worth: u64,
     ghost lasting: { all_in_range passes.now ≡ true },
-    ghost few: { length passes.now ≤ most_passes },
+    ghost few: { length passes.now ≤ max_passes },
     ghost planned: { length plan.now ≡ length passes.now },
     ghost labelled: { length labels.now ≡ length passes.now },
 }

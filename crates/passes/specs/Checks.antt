@@ -4,8 +4,8 @@ use Rattle.passes.specs.declared.model.Pass.{Pass}
 use Rattle.passes.specs.declared.model.Station.{Station}
 
 -- how many passes a list may have
-abbrev pub most_passes : ℕ
-most_passes = 48
+abbrev pub max_passes : ℕ
+max_passes = 48
 
 -- the last second in which a pass may end
 abbrev pub max_second : ℕ
@@ -44,4 +44,4 @@ sorted (p ∷ (q ∷ ps)) = nat_le p.from q.from && sorted (q ∷ ps)
 
 -- all that is asked of a station and its passes
 unfoldable pub checked : Station → List Pass → Bool
-checked s ps = dishes_ok s.dishes && (turning_ok s.turn && (nat_le (length ps) most_passes && (all_in_range ps && sorted ps)))
+checked s ps = dishes_ok s.dishes && (turning_ok s.turn && (nat_le (length ps) max_passes && (all_in_range ps && sorted ps)))

@@ -2,7 +2,7 @@
 use Rattle.std.specs.Prelude.{◌≡◌, ℕ, zero, suc, ◌+◌, ◌-◌, ◌*◌, ◌/◌, Bool, cond, ◌&&◌, ◌||◌, true, false, List, [], ◌∷◌, length, Some, None, Option, Result, MatchResult, ◌==◌, nat_le, nat_lt, slice_index}
 use Rattle.passes.specs.declared.model.OutOfRange.{OutOfRange}
 use Rattle.passes.specs.declared.model.Pass.{Pass}
-use Rattle.passes.specs.Checks.{most_passes, in_range}
+use Rattle.passes.specs.Checks.{max_passes, in_range}
 
 -- the passes that a list of numbers stands for, four to a pass: from, to, worth, marks
 unfoldable pub passes_in : List ℕ → List Pass
@@ -28,9 +28,9 @@ begun xs = (length xs + 3) / 4
 unfoldable pub in_order : List ℕ → ℕ → Bool
 in_order xs i = i == 0 || nat_le (slice_index xs (4 * (i - 1))) (slice_index xs (4 * i))
 
--- pass i of a list is not at fault: it is among the first 48 (`most_passes`), has its four numbers, is in range and in order
+-- pass i of a list is not at fault: it is among the first 48 (`max_passes`), has its four numbers, is in range and in order
 unfoldable pub sound : List ℕ → ℕ → Bool
-sound xs i = nat_lt i most_passes && (nat_le (4 * i + 4) (length xs) && (in_range (pass_at xs i) && in_order xs i))
+sound xs i = nat_lt i max_passes && (nat_le (4 * i + 4) (length xs) && (in_range (pass_at xs i) && in_order xs i))
 
 -- the first of the n numbers from i on that fails a test
 unfoldable pub first_failing : (ℕ → Bool) → ℕ → ℕ → Option ℕ

@@ -1,6 +1,6 @@
 ghost use Rattle.std.specs.Prelude.{◌≡◌, ℕ, ◌<◌, ◌≤◌, length, Some, IfOk, MatchOption};
 ghost use Rattle.std.specs.Result.{result_err};
-ghost use Rattle.passes.specs.Checks.{most_passes};
+ghost use Rattle.passes.specs.Checks.{max_passes};
 ghost use Rattle.passes.specs.Nights.{passes_of, station_of};
 ghost use Rattle.passes.specs.Numbers.{passes_in};
 ghost use Rattle.passes.specs.Plans.{worth_of};
@@ -91,7 +91,7 @@ struct Judged<'a> {
     station: Station,
     passes: &'a [Pass],
     plan: &'a [u8],
-    ghost few: { length passes.now ≤ most_passes },
+    ghost few: { length passes.now ≤ max_passes },
     ghost one_each: { length plan.now ≡ length passes.now },
 }
 

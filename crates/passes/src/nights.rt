@@ -1,5 +1,5 @@
 ghost use Rattle.std.specs.Prelude.{◌≡◌, ◌≤◌, true, take};
-ghost use Rattle.passes.specs.Checks.{checked, most_passes};
+ghost use Rattle.passes.specs.Checks.{checked, max_passes};
 
 use crate::model::{Pass, Station};
 
@@ -16,6 +16,6 @@ pub struct Night {
     // Kept: an array and how many of it count, since there is no heap and a night is `Copy`.
     pub(crate) count: usize,
     pub(crate) passes: [Pass; MAX_PASSES],
-    ghost few: { count ≤ most_passes },
+    ghost few: { count ≤ max_passes },
     ghost ok: { checked station (take count passes) ≡ true },
 }

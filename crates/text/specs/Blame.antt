@@ -1,6 +1,6 @@
 -- Which line of a text and which rule a refusal is about. Assumes nothing: these are definitions.
 use Rattle.std.specs.Prelude.{ℕ, List, map, get_or, nat_le, nat_lt, if◌then◌else◌}
-use Rattle.passes.specs.Checks.{most_passes}
+use Rattle.passes.specs.Checks.{max_passes, max_second, max_worth, max_marks}
 use Rattle.passes.specs.declared.refusals.Refusal.{Refusal}
 use Rattle.passes.specs.declared.refusals.Refusal.TheVariants.{BadDishes, BadTurning, BadPass, BadRoom}
 use Rattle.text.specs.declared.draft.StationLine.{StationLine}
@@ -20,9 +20,9 @@ line_about s es (BadRoom n) = 0
 unfoldable pub rule_of_pass : Numbers → ListRule
 rule_of_pass p =
     if nat_le p.to p.from then Span
-    else if nat_lt 1000000 p.to then End
-    else if nat_lt 1000000 p.worth then Worth
-    else if nat_lt 15 p.marks then Marks
+    else if nat_lt max_second p.to then End
+    else if nat_lt max_worth p.worth then Worth
+    else if nat_lt max_marks p.marks then Marks
     else Order
 
 -- the numbers of pass i of a draft, or zeros where there is no such pass
@@ -33,5 +33,5 @@ numbers_at es i = get_or (map (λ e. e.pass.numbers) es) i (record { from = 0; t
 unfoldable pub rule_about : List Entry → Refusal → ListRule
 rule_about es BadDishes = Dishes
 rule_about es BadTurning = Turning
-rule_about es (BadPass i) = if nat_lt i most_passes then rule_of_pass (numbers_at es i) else Count
+rule_about es (BadPass i) = if nat_lt i max_passes then rule_of_pass (numbers_at es i) else Count
 rule_about es (BadRoom n) = Count

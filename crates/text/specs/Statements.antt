@@ -1,6 +1,6 @@
 -- Statements about the definitions. Each is proved: a function of src/laws.rt has it as its contract. Assumes nothing.
 use Rattle.std.specs.Prelude.{◌≡◌, ℕ, ◌-◌, ◌<◌, ◌≤◌, ◌⊎◌, true, List, [], length, take, slice_index_or, Some, None, Ok, Err}
-use Rattle.passes.specs.Checks.{most_passes, checked}
+use Rattle.passes.specs.Checks.{max_passes, max_second, max_worth, max_marks, checked}
 use Rattle.passes.specs.declared.refusals.Refusal.{Refusal}
 use Rattle.passes.specs.declared.refusals.Refusal.TheVariants.{BadPass, BadRoom}
 use Rattle.passes.specs.Refusals.{refused}
@@ -69,11 +69,11 @@ RefusedForWhatItSays = (text : List ℕ) (why : Refusal) (line : ℕ) (rule : Li
 abbrev pub Breaks : List Entry → ℕ → ListRule → Type 0
 Breaks es i Dishes = ⊥
 Breaks es i Turning = ⊥
-Breaks es i Count = most_passes ≤ i
+Breaks es i Count = max_passes ≤ i
 Breaks es i Span = (numbers_at es i).to ≤ (numbers_at es i).from
-Breaks es i End = 1000000 < (numbers_at es i).to
-Breaks es i Worth = 1000000 < (numbers_at es i).worth
-Breaks es i Marks = 15 < (numbers_at es i).marks
+Breaks es i End = max_second < (numbers_at es i).to
+Breaks es i Worth = max_worth < (numbers_at es i).worth
+Breaks es i Marks = max_marks < (numbers_at es i).marks
 Breaks es i Order = (0 < i) × ((numbers_at es i).from < (numbers_at es (i - 1)).from)
 
 -- where a text is turned away for a pass, that pass breaks the rule that is named

@@ -6,16 +6,7 @@ ghost use Rattle.text.specs.Views.{view_of};
 use crate::draft::{Draft, StationLine};
 use crate::faults::ListRule;
 use crate::line::Numbers;
-use passes::{MAX_PASSES, Refusal};
-
-// The last second by which a pass may end.
-const MAX_SECOND: u32 = 1_000_000;
-
-// How much a pass may be worth.
-const MAX_WORTH: u32 = 1_000_000;
-
-// The marks of all dishes that a station may have.
-const MAX_MARKS: u32 = 15;
+use passes::{MAX_MARKS, MAX_PASSES, MAX_SECOND, MAX_WORTH, Refusal};
 
 // What is said of a pass that isn't there.
 const NO_NUMBERS: Numbers = Numbers {
