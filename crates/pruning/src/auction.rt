@@ -33,12 +33,14 @@ struct Auction<'n, 'a> {
     strides: [u64; WIDE_PASSES],
 }
 
-// Where a round stands, or the auction ends: prices, and to which dish each pass is given, the first that asked for it, by the numbers of plans.
+// Where a round stands, or the auction ends: prices, to which dish each pass is given, the first that asked for it, by the numbers of plans, and how
+// many rounds there were.
 // Kept: places for the most passes, since memory is fixed.
 #[derive(Clone, Copy)]
 pub struct Bids {
     pub prices: [u64; WIDE_PASSES],
     pub given: [u8; WIDE_PASSES],
+    pub rounds: usize,
 }
 
 // Holds an auction. At first nothing has a price. In each round, each dish in turn asks for the passes by which it alone gains the most at the prices. Then the
@@ -64,12 +66,14 @@ impl Auction<'_, '_> {
         let mut bids = Bids {
             prices: [0; WIDE_PASSES],
             given: [0; WIDE_PASSES],
+            rounds: 0,
         };
         let mut best = [0; WIDE_PASSES];
         let mut step = FIRST_STEP;
         let mut most = 0;
         for number in 0..ROUNDS {
             self.hold_round(number, step, &mut bids);
+            bids.rounds = number + 1;
             step = step * 54 / 64;
             let worth = self.worth_of(&bids);
             if worth > most {
@@ -81,8 +85,8 @@ impl Auction<'_, '_> {
             }
         }
         Bids {
-            prices: bids.prices,
             given: best,
+            ..bids
         }
     }
 

@@ -78,8 +78,21 @@ fn prices_above_worth(rt: HostRuntime) -> Result<(), Fail> {
     let bids = Bids {
         prices: [u64::MAX; WIDE_PASSES],
         given: [0; WIDE_PASSES],
+        rounds: 0,
     };
     assert_eq!(rt; gained_by(night, bids).most, Some(8 * u32::MAX as u64));
+    Ok(())
+}
+
+// An auction ends once its plan is seen to be worth as much as any, or after the last round.
+#[test]
+fn rounds(rt: HostRuntime) -> Result<(), Fail> {
+    let passes = by_eights::<128>();
+    // all passes can be followed; all but every other one of a dish; every other eight
+    for (turns, rounds) in [([0; 8], 25), ([0, 0, 0, 0, 0, 0, 0, 11], 25), ([11; 8], 17)] {
+        let night = WideNight::new(&turns, &passes).ok_or("no night")?;
+        assert_eq!(rt; bids_for(night).rounds, rounds);
+    }
     Ok(())
 }
 
