@@ -1,17 +1,22 @@
 #!/usr/bin/env python3
-"""Plants small bugs in a crate, one at a time, and says how the check refuses each, or that the crate is still proved with it.
+"""Plants small bugs in a crate, one at a time, and says how the check refuses each, or that the crate is still proved
+with it.
 
     python3 tools/bugs.py CRATE [--most N] [--seed S] [--only WORD]    at the top of the repository
     python3 tools/bugs.py CRATE --edits                                the same of the crate's must-fail edits
 
-It works on a copy and changes nothing here. A bug is one change to one line of code, outside tests, clauses and comments: another operator, number,
-method, field or argument, a condition turned round, or a statement left out. Bugs are drawn at random, one from each function in turn. What a refusal shows
-depends on where its first error stands:
+It works on a copy and changes nothing here. A bug is one change to one line of code: another operator, number, method,
+field or argument, a condition turned round, or a statement left out. Tests, laws.rt, clauses and comments are left
+out, and lines that stand more than once in their file. Bugs are drawn at random, one from each function in turn. What
+a refusal shows depends on where its first error stands:
 
     goal     in the code: something that is to hold there can no longer be shown
     tactic   in a proof file, where a tactic no longer shows what it showed, mostly with values at which that fails
-    term     in a proof file, where a term written by hand no longer has its goal's type. That alone doesn't tell a false goal from a proof that no
-             longer fits, so the tests are run on the code with the bug, unproved: they fail, or they show nothing
+    term     in a proof file, where a term written by hand no longer has its goal's type. That alone doesn't tell a
+             false goal from a proof that no longer fits, so the tests of the crate, or a program, are run on the code
+             with the bug, unproved: a test fails or other things are printed ("term, and it shows"), or not
+
+What the compiler refuses before anything is proved is no bug: "not code".
 """
 import argparse
 import collections
@@ -27,25 +32,31 @@ import tempfile
 SWAPS = [
     (r" < ", " <= "), (r" <= ", " < "), (r" > ", " >= "), (r" >= ", " > "), (r" == ", " != "), (r" != ", " == "),
     (r" < ", " > "), (r" > ", " < "), (r" <= ", " >= "), (r" >= ", " <= "),
-    (r" && ", " || "), (r" \|\| ", " && "), (r" \+ ", " - "), (r" - ", " + "), (r" \* ", " + "), (r" / ", " * "), (r" % ", " / "),
-    (r" & ", " | "), (r" \| ", " & "), (r" << ", " >> "), (r" >> ", " << "), (r" \+= ", " -= "), (r" -= ", " += "), (r" \|= ", " = "),
+    (r" && ", " || "), (r" \|\| ", " && "), (r" \+ ", " - "), (r" - ", " + "), (r" \* ", " + "), (r" / ", " * "),
+    (r" % ", " / "), (r" & ", " | "), (r" \| ", " & "), (r" << ", " >> "), (r" >> ", " << "),
+    (r" \+= ", " -= "), (r" -= ", " += "), (r" \|= ", " = "),
     (r"\btrue\b", "false"), (r"\bfalse\b", "true"), (r"(?<!\.)\.\.(?![.=])", "..="), (r"\.\.=", ".."),
     (r"\.min\(", ".max("), (r"\.max\(", ".min("), (r"\.any\(", ".all("), (r"\.all\(", ".any("),
     (r"\.is_some\(", ".is_none("), (r"\.is_none\(", ".is_some("), (r"\.rev\(\)", ""), (r"\.position\(", ".rposition("),
-    (r"saturating_add\(", "saturating_sub("), (r"saturating_sub\(", "saturating_add("), (r"(?<=if )!", ""), (r"(?<=[(|& ])!(?=\w)", ""),
-    (r"\.find\(", ".rfind("), (r"\bfrom\b(?=[ ,)]|$)", "to"), (r"\.from\b", ".to"), (r"\.to\b", ".from"),
-    (r"\.dishes\b", ".turn"), (r"\.turn\b", ".dishes"), (r"\.split_first\(", ".split_last("), (r"starts_with\(", "ends_with("),
-    (r"\bSome\(\w+\)$", "None"), (r"\bstage \+ 1\b", "stage"), (r"\bstate\b(?=\)|,)", "best"), (r"\bchoice\b(?=,|\))", "0"), (r"\bturn\b(?=,|\))", "0"),
+    (r"saturating_add\(", "saturating_sub("), (r"saturating_sub\(", "saturating_add("),
+    (r"(?<=if )!", ""), (r"(?<=[(|& ])!(?=\w)", ""), (r"\.find\(", ".rfind("),
+    (r"\bfrom\b(?=[ ,)]|$)", "to"), (r"\.from\b", ".to"), (r"\.to\b", ".from"),
+    (r"\.dishes\b", ".turn"), (r"\.turn\b", ".dishes"), (r"\.split_first\(", ".split_last("),
+    (r"starts_with\(", "ends_with("), (r"\bSome\(\w+\)$", "None"), (r"\bstage \+ 1\b", "stage"),
+    (r"\bstate\b(?=\)|,)", "best"), (r"\bchoice\b(?=,|\))", "0"), (r"\bturn\b(?=,|\))", "0"),
     (r"\bdishes\b(?=,|\))", "1"), (r"\.len\(\)", ".len().saturating_sub(1)"), (r"\bi\b(?=\]|\))", "0"),
 ]
 HEAD = r"^\s*(?:pub(?:\(crate\))?\s+)?(?:const\s+)?fn\s+([a-z_0-9]+)"
-NOT_CODE = ("//", "ghost", "use ", "requires", "ensures", "#", "pub ", "fn ", "mod ", "impl", "struct", "enum", "trait", "type", "where", "const ")
-# Of a must-fail edit the function is its name, and old and new are the lines that it changes and puts.
+NOT_CODE = (
+    "//", "ghost", "use ", "requires", "ensures", "#", "pub ", "fn ", "mod ", "impl", "struct", "enum", "trait", "type",
+    "where", "const ",
+)
+# Of a must-fail edit the function is its name, and old and new are the texts that it takes out and puts in.
 Bug = collections.namedtuple("Bug", "path row function old new")
 
 
 def bodies(lines):
-    """Row, line and function of each line of code, tests left out."""
+    """Row, line and function of each line of code that stands once in its file."""
     name = ""
     for row, line in enumerate(lines):
         if "#[cfg(test)]" in line:
@@ -105,30 +116,64 @@ def drawn(bugs, most, seed):
 def edits_of(crate):
     """The crate's must-fail edits that change one line."""
     for path in sorted(glob.glob(f"crates/{crate}/must-fail/*.edit")):
-        with open(path, encoding="utf-8") as file:
-            lines = [line.split(": ", 1) for line in file.read().split("\n") if ": " in line]
         said = collections.defaultdict(list)
-        for word, text in lines:
-            said[word].append(text)
+        with open(path, encoding="utf-8") as file:
+            for line in file.read().split("\n"):
+                word, _, text = line.partition(":")
+                said[word].append(text[1:])
         if len(said["old"]) == 1:
-            yield Bug(f"crates/{crate}/{said['file'][0]}", 0, os.path.basename(path)[: -len(".edit")], said["old"][0], said["new"][0])
+            name = os.path.basename(path)[: -len(".edit")]
+            yield Bug(f"crates/{crate}/{said['file'][0]}", 0, name, said["old"][0], said["new"][0])
         else:
             print(f"{path} changes more than one line and is left out")
 
 
-def tests_fail(copy, bug):
-    """Whether a test fails on the code with the bug, unproved."""
-    path = os.path.join(copy, bug.path)
-    with open(path, encoding="utf-8") as file:
-        text = file.read()
-    try:
-        with open(path, "w", encoding="utf-8") as file:
-            file.write(text.replace(bug.old, bug.new))
-        folder = os.path.join(copy, *bug.path.split("/")[:2])
-        return subprocess.run(["rt", "try", "--test", "--seconds", "60"], cwd=folder, capture_output=True).returncode != 0
-    finally:
-        with open(path, "w", encoding="utf-8") as file:
-            file.write(text)
+class Copy:
+    """A copy of the repository, in which a crate is run unproved."""
+
+    def __init__(self, folder, crate):
+        self.top = os.path.join(folder, "repository")
+        self.crate = os.path.join(self.top, "crates", crate)
+        shutil.copytree(".", self.top, symlinks=True, ignore=shutil.ignore_patterns("must-fail", ".git"))
+        self.sound = None
+
+    def shown(self):
+        """What a run of the crate shows: of a program what it prints, of a library whether its tests pass."""
+        is_program = os.path.exists(os.path.join(self.crate, "src", "main.rt"))
+        command = ["rt", "try", "--seconds", "600"] + ([] if is_program else ["--test"])
+        data = os.path.join(self.crate, "data")
+        for name in sorted(os.listdir(data)) if os.path.isdir(data) else []:
+            command += ["--data", f"{name}=data/{name}"]
+        run = subprocess.run(command, cwd=self.crate, capture_output=True, text=True)
+        return run.returncode, run.stdout if is_program else ""
+
+    def shows(self, bug):
+        """Whether the bug shows in such a run."""
+        if self.sound is None:
+            self.sound = self.shown()
+        path = os.path.join(self.top, bug.path)
+        with open(path, encoding="utf-8") as file:
+            text = file.read()
+        try:
+            with open(path, "w", encoding="utf-8") as file:
+                file.write(text.replace(bug.old, bug.new))
+            return self.shown() != self.sound
+        finally:
+            with open(path, "w", encoding="utf-8") as file:
+                file.write(text)
+
+    def plant(self, bugs):
+        """Makes each bug a must-fail edit, and gives what is said of each."""
+        edits = os.path.join(self.crate, "must-fail")
+        os.makedirs(edits)
+        for number, bug in enumerate(bugs):
+            with open(f"{edits}/m{number:03}.edit", "w", encoding="utf-8") as file:
+                file.write(f"file: {'/'.join(bug.path.split('/')[2:])}\nold: {bug.old}\nnew: {bug.new}\n")
+        command = ["rt", "must-fail", os.path.basename(self.crate)]
+        run = subprocess.run(command, cwd=self.top, capture_output=True, text=True)
+        for line in (run.stdout + run.stderr).split("\n"):
+            if found := re.search(r"must-fail \S+/m(\d+)(?:\.edit)?: (.*)", line):
+                yield bugs[int(found[1])], found[2]
 
 
 def kind_of(said):
@@ -144,37 +189,32 @@ def kind_of(said):
     return "tactic" if re.search(r"`(omega|grind|search)`", said) else "term"
 
 
-def main():
+def arguments():
     ap = argparse.ArgumentParser()
     ap.add_argument("crate")
     ap.add_argument("--most", type=int, default=40)
     ap.add_argument("--seed", type=int, default=1)
     ap.add_argument("--only", default="")
     ap.add_argument("--edits", action="store_true")
-    args = ap.parse_args()
+    return ap.parse_args()
+
+
+def main():
+    args = arguments()
     every = list(edits_of(args.crate) if args.edits else bugs_of(args.crate, args.only))
     taken = every if args.edits else drawn(every, args.most, args.seed)
-    work = tempfile.mkdtemp(prefix="bugs-")
-    copy = os.path.join(work, "repository")
-    shutil.copytree(".", copy, symlinks=True, ignore=shutil.ignore_patterns("must-fail", ".git"))
-    edits = os.path.join(copy, "crates", args.crate, "must-fail")
-    os.makedirs(edits)
-    for number, bug in enumerate(taken):
-        with open(f"{edits}/m{number:03}.edit", "w", encoding="utf-8") as file:
-            file.write(f"file: {'/'.join(bug.path.split('/')[2:])}\nold: {bug.old}\nnew: {bug.new}\n")
     print(f"{args.crate}: {len(every)} places, {len(taken)} tried", flush=True)
-    run = subprocess.run(["rt", "must-fail", args.crate], cwd=copy, capture_output=True, text=True)
     count = collections.Counter()
-    for line in (run.stdout + run.stderr).split("\n"):
-        if not (found := re.search(r"must-fail \S+/m(\d+)(?:\.edit)?: (.*)", line)):
-            continue
-        bug, kind = taken[int(found[1])], kind_of(found[2])
-        if kind == "term":
-            kind = "term, and tests fail" if tests_fail(copy, bug) else "term alone"
-        count[kind] += 1
-        print(f"{kind}: {bug.path}:{bug.row} in {bug.function}\n    - {bug.old.strip()}\n    + {bug.new.strip()}\n    {found[2][:240]}", flush=True)
+    with tempfile.TemporaryDirectory(prefix="bugs-") as folder:
+        copy = Copy(folder, args.crate)
+        for bug, said in copy.plant(taken):
+            kind = kind_of(said)
+            if kind == "term":
+                kind = "term, and it shows" if copy.shows(bug) else "term alone"
+            count[kind] += 1
+            print(f"{kind}: {bug.path}:{bug.row} in {bug.function}", f"- {bug.old.strip()}", f"+ {bug.new.strip()}",
+                  said[:240], sep="\n    ", flush=True)
     print(", ".join(f"{number} {kind}" for kind, number in sorted(count.items())))
-    shutil.rmtree(work, ignore_errors=True)
 
 
 if __name__ == "__main__":

@@ -1,10 +1,11 @@
 #!/usr/bin/env python3
 """Runs the gate and prints how long it took, and how much time of the processors each crate took of it.
 
-    python3 tools/gate_time.py    at the top of the repository
+    python3 tools/gate_time.py    at the top of the repository, with no other check on the machine
 
-Twice a second it looks at all processes that name a crate (`--crate-name NAME`), in /proc, and adds up what each of them has taken by then; what a process takes after
-the last look at it is lost, so the sum is a little low. What the tests and programs take themselves counts for none of the crates.
+Twice a second it looks at all processes on the machine that name a crate (`--crate-name NAME`), in /proc, and adds up
+what each of them has taken by then; what a process takes after the last look at it is lost, so the sum is a little low.
+What the tests and programs take themselves counts for none of the crates.
 """
 import collections
 import glob
