@@ -1,17 +1,18 @@
 // The entry: a best plan over all plans.
 ghost use Rattle.std.specs.Prelude.{◌≡◌, length, MatchResult};
 ghost use Rattle.std.specs.Result.{result_err};
-ghost use Rattle.engine.specs.Gaining.{BestGain};
+ghost use Rattle.engine.specs.Gaining.{BestGain, GainAnswered};
 ghost use Rattle.passes.specs.Nights.{passes_of, station_of};
 ghost use Rattle.passes.specs.Numbers.{passes_in};
 ghost use Rattle.passes.specs.Refusals.{room_refused, refused_with_room};
 ghost use Rattle.capacity.specs.Alone.{BestPlanWorth};
 ghost use Rattle.planner.specs.Answers.{done_of, DoneSays};
+ghost use Rattle.pruning.specs.Rounding.{rounded_night};
 ghost use Rattle.planner.specs.Nights.{night as night_of};
 
-use engine::{Summed, gain_most};
+use engine::{Gained, Summed, gain_most};
 use passes::{MAX_DISHES, Night, Refusal};
-use pruning::{Priced, WIDE_PASSES, WideNight, bids_for};
+use pruning::{Priced, ROUNDS, WIDE_PASSES, WideNight, bids_for};
 
 // How many states the search remembers.
 const PLACES: usize = 1024;
@@ -96,11 +97,11 @@ fn best_of_night(night: &Night, room: &mut [u8]) -> Counted
     // Kept: an array, of which the front is used, since there is no heap.
     let turns = [station.turn; MAX_DISHES];
     let turns = &turns[..station.dishes as usize];
-    let rounded = WideNight {
+    let wide = WideNight {
         turns,
         passes: night.passes(),
     };
-    plan_each(rounded, room)
+    plan_each(wide, room)
 }
 
 // Leaves the decisions that gain the most in the room, for dishes each of which takes its own time to turn, and answers how much that is.
@@ -115,11 +116,25 @@ fn plan_each(night: WideNight, room: &mut [u8]) -> Counted
     };
     // The auction's plan is the first to be beaten.
     room.copy_from_slice(&bids.given[..room.len()]);
-    let mut made = [0; WIDE_PASSES];
-    let mut seen = [None; PLACES];
-    let gained = gain_most(&problem, &mut made[..room.len()], &mut seen, room);
+    let gained = search_at_prices(&problem, bids.rounds == ROUNDS, room);
     Counted {
         worth: gained.most.unwrap(),
         visited: gained.visited,
     }
+}
+
+// Leaves a run that gains the most in the room, which may hold the first to be beaten, and answers how much that is. An auction that ended before its last
+// round had a plan that is worth as much as any: then nothing is left to search for, and no table is made ready for it.
+// Kept: the room stands beside the decisions, to be written.
+fn search_at_prices(problem: &Summed<Priced>, is_open: bool, room: &mut [u8]) -> Gained
+    requires one_each { length room.old ≡ length problem.now.gains.night.passes.now }
+    ensures { let n = problem.now.gains.night in GainAnswered (rounded_night n.turns.now n.passes.now) room.old result.most room.new }
+{
+    let mut made = [0; WIDE_PASSES];
+    let made = &mut made[..room.len()];
+    if !is_open {
+        return gain_most(problem, made, &mut [], room);
+    }
+    let mut seen = [None; PLACES];
+    gain_most(problem, made, &mut seen, room)
 }

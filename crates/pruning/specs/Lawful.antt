@@ -26,11 +26,11 @@ module _ (turns : List ℕ) (ps : List Pass) (i c : ℕ) (s : NextPasses) (d : �
   pub then_waits : c ≢ d + 1 → slice_index s.next d ≡ i → next_then turns ps i c s d ≡ next_pass turns ps d (i + 1) 0
   then_waits other here = grind (arith, nat_tests)
 
-  -- the pass was not its next one
+  -- a dish that does not follow the pass, and whose next one it was not, keeps its next one
   pub then_kept : c ≢ d + 1 → slice_index s.next d ≢ i → next_then turns ps i c s d ≡ slice_index s.next d
   then_kept other later = grind (arith, nat_tests)
 
-  -- so what holds in each of the three cases holds of it
+  -- what holds of a dish's next pass in each of the three cases holds of it
   pub then_cases :
       (P : ℕ → Type 0) →
       (c ≡ d + 1 → P (next_pass turns ps d (i + 1) (free_after turns (nth ps i) d))) →

@@ -30,15 +30,15 @@ module _ (turns : List ℕ) (ps : List Pass) (d x k : ℕ) (start : k ≤ length
       (λ l. rw (behind (m - k), here) (suited (omega (arith, length-drop k ps)))))
       ∙ here
 
-  -- it lies among the passes, or behind all
+  -- a dish's next pass lies among the passes, or behind all
   pub next_within : next_pass turns ps d k x ≤ length ps
   next_within = omega (arith, prefix_len-le-length (λ p. not (suits turns d x p)) (drop k ps), length-drop k ps)
 
-  -- it suits the dish, unless it is behind all
+  -- a dish's next pass suits the dish, unless it is behind all
   pub next_suits : next_pass turns ps d k x < length ps → suits turns d x (nth ps (next_pass turns ps d k x)) ≡ true
   next_suits l = rw (behind (position_or_len (suits turns d x) (drop k ps))) at (passes_at_first (suits turns d x) (drop k ps) no_pass (omega (arith, length-drop k ps)))
 
-  -- no pass before it does
+  -- no pass before a dish's next one suits the dish
   pub next_none : NoneSuited turns ps d x k (next_pass turns ps d k x)
   next_none j low high =
       let there : k + (j - k) ≡ j = omega arith in

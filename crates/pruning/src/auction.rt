@@ -13,7 +13,7 @@ use engine::{Decisions, Gains};
 use passes::Pass;
 
 // The most rounds that an auction has.
-const ROUNDS: usize = 48;
+pub const ROUNDS: usize = 48;
 
 // A whole step is so many parts; the first step is half of them.
 const PARTS: u64 = 1 << 16;
@@ -22,7 +22,7 @@ const PARTS: u64 = 1 << 16;
 const FIRST_STEP: u64 = PARTS / 2;
 
 // Once in so many rounds it is looked whether the best plan so far is worth as much as any.
-const BETWEEN_BOUNDS: usize = 4;
+const BETWEEN_BOUNDS: usize = 8;
 
 // An auction of a night's passes, under way.
 #[derive(Drop)]

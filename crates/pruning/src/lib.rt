@@ -11,7 +11,7 @@ mod tables;
 mod tests;
 mod units;
 
-pub use auction::{Bids, bids_for};
+pub use auction::{Bids, ROUNDS, bids_for};
 pub use laws::prices_bound_stands;
 pub use prices::Priced;
 pub use rounding::{NextPasses, WIDE_DISHES, WIDE_PASSES, WideNight};

@@ -17,10 +17,10 @@ slice_bounds-turns-end c = four_dishes (goal.at.slice_bounds-turns-end c).After-
 pub slice_bounds-turns-end-2 : goal.slice_bounds-turns-end-2
 slice_bounds-turns-end-2 c = sym (length-take-le c.station-station.result.dishes _ (four_dishes (goal.at.slice_bounds-turns-end-2 c).After-station-station))
 
-pub invariant_of-rounded : goal.invariant_of-rounded
-invariant_of-rounded c =
+pub invariant_of-wide : goal.invariant_of-wide
+invariant_of-wide c =
     let n = c.args.night.now in
-    let few = four_dishes (goal.at.invariant_of-rounded c).After-station-station in
+    let few = four_dishes (goal.at.invariant_of-wide c).After-station-station in
     record {
       few_dishes = omega (arith, few, length-take-le c.station-station.result.dishes (replicate 4 c.station-station.result.turn) few);
       few_passes = omega (arith, (checked_says n.station (passes_of n) n.ok).few, ap length c.passes.ensures);
