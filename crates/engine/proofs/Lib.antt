@@ -3,3 +3,4 @@ pub mod Ways
 pub mod Trying
 pub mod Tallies
 pub mod Mapping
+pub mod Ruling

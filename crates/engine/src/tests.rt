@@ -1,5 +1,5 @@
 // Small problems: one of which some sizes have no run at all, and one of which most is left out.
-ghost use Rattle.std.specs.Prelude.{◌+◌, ◌-◌, ◌%◌, ◌<◌, cond, ◌&&◌, Some, None, nat_le, nat_lt};
+ghost use Rattle.std.specs.Prelude.{◌+◌, ◌-◌, ◌%◌, ◌<◌, cond, not, ◌&&◌, ◌==◌, Some, None, nat_le, nat_lt};
 ghost use Rattle.std.proofs.Common.{arith};
 ghost use Rattle.std.proofs.lemmas.Bool.Decides.{nat_tests};
 
@@ -178,5 +178,52 @@ fn the_most_without_neighbours(rt: HostRuntime) {
             }
         );
         assert_eq!(rt; room, [1, 0, 0, 1, 0, 1]);
+    }
+}
+
+// One choice alone is accepted at a stage, and any at the others.
+#[derive(Clone, Copy, Drop)]
+struct Only {
+    stage: usize,
+    choice: u8,
+}
+
+impl Rule for Only {
+    type State = ();
+
+    ghost automaton = { λ r. record { start = tt; step = λ i c s. cond (i == r.stage && not (c == r.choice)) None (Some tt) } };
+
+    fn start(&self) {}
+
+    fn step(&self, stage: usize, choice: u8, _state: ()) -> Option<()> {
+        (stage != self.stage || choice == self.choice).then_some(())
+    }
+
+    fn grants(&self, _stage: usize, _seen: (), _state: ()) -> bool {
+        true
+    }
+}
+
+#[test]
+fn the_most_by_rules(rt: HostRuntime) {
+    let only = |stage, choice| Only { stage, choice };
+    for (one, other, most, left) in [
+        // without the dearest one in the middle
+        (only(3, 0), only(3, 0), Some(6), [1, 0, 1, 0, 1, 0]),
+        // and with a cheap one
+        (only(3, 0), only(1, 1), Some(4), [0, 1, 0, 0, 1, 0]),
+        // two next to one another, and a choice that there isn't: no run at all
+        (only(3, 1), only(4, 1), None, [9; 6]),
+        (only(0, 2), only(3, 0), None, [9; 6]),
+    ] {
+        let problem = Ruled {
+            problem: Summed { gains: Apart },
+            rule: Together { one, other },
+        };
+        let mut made = [7; 6];
+        let mut room = [9; 6];
+        let gained = gain_most_by(&problem, &mut made, &mut [None; 4], &mut room);
+        assert_eq!(rt; gained.most, most);
+        assert_eq!(rt; room, left);
     }
 }
