@@ -5,3 +5,4 @@ pub mod Finite
 pub mod More
 pub mod Apart
 pub mod Rounding
+pub mod ByRule

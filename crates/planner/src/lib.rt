@@ -3,13 +3,15 @@
 
 mod laws;
 mod planning;
+mod ruled;
 mod scheduling;
 
 pub use laws::{
     each_is_night_stands, has_best_stands, more_dishes_stands, one_more_stands, rounding_up_stands,
     side_by_side_stands, station_is_night_stands,
 };
-pub use planning::{Counted, Done, plan, plan_counted, plan_taken, try_plan};
+pub use planning::{Counted, Done, PLACES, plan, plan_counted, plan_taken, try_plan};
+pub use ruled::{SeenState, best_by, best_of_station};
 pub use scheduling::{FreeFrom, Scheduling};
 
 #[cfg(test)]

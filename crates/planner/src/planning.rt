@@ -1,21 +1,21 @@
 // The entry: a best plan over all plans.
 ghost use Rattle.std.specs.Prelude.{◌≡◌, length, MatchResult};
 ghost use Rattle.std.specs.Result.{result_err};
-ghost use Rattle.engine.specs.Gaining.{BestGain, GainAnswered};
 ghost use Rattle.passes.specs.Nights.{passes_of, station_of};
 ghost use Rattle.passes.specs.Numbers.{passes_in};
 ghost use Rattle.passes.specs.Refusals.{room_refused, refused_with_room};
 ghost use Rattle.capacity.specs.Alone.{BestPlanWorth};
+ghost use Rattle.engine.specs.Rules.{anything};
 ghost use Rattle.planner.specs.Answers.{done_of, DoneSays};
-ghost use Rattle.pruning.specs.Rounding.{rounded_night};
-ghost use Rattle.planner.specs.Nights.{night as night_of};
+ghost use Rattle.planner.specs.Ruled.{good_by, PlannedBy};
 
-use engine::{Gained, Summed, gain_most};
+use crate::ruled::best_at_prices;
+use engine::{Anything, Gained};
 use passes::{MAX_DISHES, Night, Refusal};
-use pruning::{Priced, ROUNDS, WIDE_PASSES, WideNight, bids_for};
+use pruning::{ROUNDS, WideNight, bids_for};
 
 // How many states the search remembers.
-const PLACES: usize = 1024;
+pub const PLACES: usize = 1024;
 
 // What came of planning.
 // Kept: a kind and a number, and no `Result`: the form of the entry is fixed, so that C could call it.
@@ -55,8 +55,8 @@ pub fn try_plan(dishes: u64, turn: u64, passes: &[u32], room: &mut [u8]) -> Resu
     plan_counted(dishes, turn, passes, room).map(|counted| counted.worth)
 }
 
-// What a best plan is worth, and how many states the search visited for it: none where the first plan was seen to be a best one. What finding prices and
-// that plan took isn't counted.
+// What a best plan is worth, and how many states were visited for what was asked: none where the first plan was seen to be a best one. What finding prices
+// and that plan took isn't counted.
 #[derive(Clone, Copy, Debug, PartialEq)]
 pub struct Counted {
     pub worth: u64,
@@ -87,7 +87,7 @@ pub fn plan_taken(night: &Night, room: &mut [u8]) -> Result<u64, Refusal>
     Ok(best_of_night(night, room).worth)
 }
 
-// Leaves a best plan of a night in the room, and answers its worth.
+// As `plan_taken`, for a room that has a number for each pass, with how many states the search visited. No rule refuses anything.
 // Kept: the room stands beside the night, since it is the caller's and is lent to be written.
 fn best_of_night(night: &Night, room: &mut [u8]) -> Counted
     requires one_each { length room.old ≡ length (passes_of night.now) }
@@ -101,40 +101,23 @@ fn best_of_night(night: &Night, room: &mut [u8]) -> Counted
         turns,
         passes: night.passes(),
     };
-    plan_each(wide, room)
-}
-
-// Leaves the decisions that gain the most in the room, for dishes each of which takes its own time to turn, and answers how much that is.
-// Kept: the room stands beside the night, to be written.
-fn plan_each(night: WideNight, room: &mut [u8]) -> Counted
-    requires one_each { length room.old ≡ length night.passes.now }
-    ensures { BestGain (night_of night.entry.turns.now night.entry.passes.now) room.new result.worth }
-{
-    let bids = bids_for(night);
-    let problem = Summed {
-        gains: Priced::new(night, &bids.prices),
-    };
-    // The auction's plan is the first to be beaten.
-    room.copy_from_slice(&bids.given[..room.len()]);
-    let gained = search_at_prices(&problem, bids.rounds == ROUNDS, room);
+    let gained = plan_each(wide, room);
     Counted {
         worth: gained.most.unwrap(),
         visited: gained.visited,
     }
 }
 
-// Leaves a run that gains the most in the room, which may hold the first to be beaten, and answers how much that is. An auction that ended before its last
-// round had a plan that is worth as much as any: then nothing is left to search for, and no table is made ready for it.
-// Kept: the room stands beside the decisions, to be written.
-fn search_at_prices(problem: &Summed<Priced>, is_open: bool, room: &mut [u8]) -> Gained
-    requires one_each { length room.old ≡ length problem.now.gains.night.passes.now }
-    ensures { let n = problem.now.gains.night in GainAnswered (rounded_night n.turns.now n.passes.now) room.old result.most room.new }
+// Leaves a best plan in the room, for dishes each of which takes its own time to turn. Where nothing is left to search for, no table is made.
+// Kept: the room stands beside the night, to be written.
+fn plan_each(night: WideNight, room: &mut [u8]) -> Gained
+    requires one_each { length room.old ≡ length night.passes.now }
+    ensures { PlannedBy (good_by night.entry.turns.now anything) night.entry.passes.now room.old result.most room.new }
 {
-    let mut made = [0; WIDE_PASSES];
-    let made = &mut made[..room.len()];
-    if !is_open {
-        return gain_most(problem, made, &mut [], room);
+    let bids = bids_for(night);
+    if bids.rounds < ROUNDS {
+        return best_at_prices(night, &bids, Anything, &mut [], room);
     }
     let mut seen = [None; PLACES];
-    gain_most(problem, made, &mut seen, room)
+    best_at_prices(night, &bids, Anything, &mut seen, room)
 }
