@@ -1,0 +1,8 @@
+use Rattle.passes.proofs.Taking.{room_taken}
+use Rattle.sensitivity.proofs.inquiries.plan_into.Goals as goal
+
+pub unwrap-requires : goal.unwrap-requires
+unwrap-requires c = room_taken _ _ c.plan_taken.result c.requires.one_each c.plan_taken.ensures.refusal
+
+pub returns : goal.returns
+returns c = rw c.unwrap.ensures at c.plan_taken.ensures.planned

@@ -1,0 +1,4 @@
+pub mod Needing
+pub mod PassRules
+pub mod Answers
+pub mod Statements
