@@ -7,11 +7,15 @@ use Rattle.drawing.specs.Timelines.{timeline_text, LettersInTheirRows, LinesFit}
 use Rattle.drawing.specs.Within.{InTheirLanes}
 use Rattle.passes.specs.Nights.{passes_of}
 use Rattle.passes.specs.Plans.{Best}
+use Rattle.reasons.specs.declared.reason.Reason.{Reason}
+use Rattle.reasons.specs.TrueReasons.{AllTrue}
+use Rattle.reasons.specs.Words.{reasons_text}
 use Rattle.report.specs.declared.answers.Answer.{Answer}
 use Rattle.report.specs.declared.answers.Answer.TheVariants.{Planned as PlannedText, TurnedAway as TurnedAwayText}
 use Rattle.report.specs.declared.answers.View.{View}
-use Rattle.report.specs.declared.answers.View.TheVariants.{Plan, Timeline, Svg}
+use Rattle.report.specs.declared.answers.View.TheVariants.{Plan, Timeline, Svg, Why}
 use Rattle.text.specs.declared.faults.TurnedAway.{TurnedAway}
+use Rattle.text.specs.declared.nights.NamedNight.{NamedNight}
 use Rattle.text.specs.declared.planned.Planned.{Planned}
 use Rattle.text.specs.Lists.{list_of}
 use Rattle.text.specs.Messages.{refusal_line}
@@ -34,18 +38,27 @@ pub record IsDrawing (p : Planned) (bytes : List ℕ) : Type 0 where
   pub there : LanesThere (shown_of p)
   pub lane : InTheirLanes (shown_of p)
 
+-- the bytes are a plan with a line for each pass, each of which gives a true reason why that pass is followed or let go
+pub record IsExplained (p : Planned) (bytes : List ℕ) : Type 0 where
+  pub reasons : List Reason
+  pub all_true : AllTrue p reasons
+  pub text : bytes ≡ reasons_text p reasons
+
 -- the bytes show a planned night so
 abbrev pub Shows : View → Planned → List ℕ → Type 0
 Shows Plan p bytes = bytes ≡ plan_text p
 Shows Timeline p bytes = IsTimeline p bytes
 Shows Svg p bytes = IsDrawing p bytes
+Shows Why p bytes = IsExplained p bytes
 
--- the night is the list that the text stands for, and its plan is a best one
-pub record PlannedFor (text : List ℕ) (p : Planned) : Type 0 where
-  pub read : read_text text ≡ Ok (list_of p.night)
-  pub best : Best p.night.night.station (passes_of p.night.night) p.plan.items
+-- the bytes show a best plan for a night so
+pub record ShowsBest (view : View) (night : NamedNight) (bytes : List ℕ) : Type 0 where
+  pub planned : Planned
+  pub same : planned.night ≡ night
+  pub best : Best night.night.station (passes_of night.night) planned.plan.items
+  pub shows : Shows view planned bytes
 
 -- THE PROMISE OF THE PROGRAM. What is answered shows a best plan for the list that the text stands for; or the text stands for none, and it says why
 abbrev pub Answers : View → (text : List ℕ) → Answer → Type 0
-Answers view text (PlannedText shown) = (p : Planned) × PlannedFor text p × Shows view p (string_bytes shown)
+Answers view text (PlannedText shown) = (night : NamedNight) × (read_text text ≡ Ok (list_of night)) × ShowsBest view night (string_bytes shown)
 Answers view text (TurnedAwayText line) = (why : TurnedAway) × (read_text text ≡ Err why) × (string_bytes line ≡ refusal_line text why)

@@ -1,7 +1,7 @@
 -- What arguments ask of the program. Assumes nothing: these are definitions.
 use Rattle.std.specs.Prelude.{ℕ, List, [], ◌∷◌, codes, bytes_eq, slice_index, ◌==◌, option_map, Some, None, Option, if◌then◌else◌}
 use Rattle.report.specs.declared.answers.View.{View}
-use Rattle.report.specs.declared.answers.View.TheVariants.{Plan, Timeline, Svg}
+use Rattle.report.specs.declared.answers.View.TheVariants.{Plan, Timeline, Svg, Why}
 use Rattle.report.specs.declared.requests.Request.{Request}
 use Rattle.report.specs.declared.requests.Request.TheVariants as code
 
@@ -21,7 +21,8 @@ asked code.Unknown = unknown
 
 -- the view that an option asks for
 unfoldable pub view_named : List ℕ → Option View
-view_named w = if bytes_eq w (codes "--timeline") then Some Timeline else if bytes_eq w (codes "--svg") then Some Svg else None
+view_named w =
+    if bytes_eq w (codes "--timeline") then Some Timeline else if bytes_eq w (codes "--svg") then Some Svg else if bytes_eq w (codes "--why") then Some Why else None
 
 -- a file, whose name may not begin as that of an option does
 unfoldable pub of_file : View → List ℕ → Asked

@@ -1,9 +1,10 @@
 ghost use Rattle.std.specs.Prelude.{IfOk, string_bytes};
-ghost use Rattle.report.specs.Answers.{Shows, Answers};
+ghost use Rattle.report.specs.Answers.{ShowsBest, Answers};
 
 use drawing::{svg, timeline};
+use reasons::explain;
 use std::alloc::{AllocError, Global};
-use text::{NamedNight, Planned, ReadError, refusal_line};
+use text::{NamedNight, ReadError, refusal_line};
 
 // How a plan is shown.
 #[derive(Clone, Copy, Debug, PartialEq)]
@@ -14,17 +15,20 @@ pub enum View {
     Timeline,
     // As a drawing for a browser.
     Svg,
+    // In words, with a line for each pass that says why it is followed or let go.
+    Why,
 }
 
 impl View {
-    // A planned night, as it is shown.
-    fn show(self, alloc: Global, planned: &Planned) -> Result<String, AllocError>
-        ensures { IfOk result (λ text. Shows self planned.now (string_bytes text)) }
+    // A best plan for a night, as it is shown.
+    fn show(self, alloc: Global, night: NamedNight) -> Result<String, AllocError>
+        ensures { IfOk result (λ text. ShowsBest self night (string_bytes text)) }
     {
         match self {
-            View::Plan => planned.text(alloc),
-            View::Timeline => timeline(alloc, planned),
-            View::Svg => svg(alloc, planned),
+            View::Plan => night.plan(alloc)?.text(alloc),
+            View::Timeline => timeline(alloc, &night.plan(alloc)?),
+            View::Svg => svg(alloc, &night.plan(alloc)?),
+            View::Why => explain(alloc, night)?.text(alloc),
         }
     }
 }
@@ -43,10 +47,7 @@ pub fn respond(alloc: Global, view: View, text: &[u8]) -> Result<Answer, AllocEr
     ensures { IfOk result (Answers view text.now) }
 {
     match NamedNight::read(alloc, text) {
-        Ok(night) => {
-            let planned = night.plan(alloc)?;
-            Ok(Answer::Planned(view.show(alloc, &planned)?))
-        }
+        Ok(night) => Ok(Answer::Planned(view.show(alloc, night)?)),
         Err(ReadError::TurnedAway(why)) => {
             Ok(Answer::TurnedAway(refusal_line(alloc, text, why)?))
         }

@@ -8,7 +8,7 @@ pub const HELP: &str =
     "zincsmock plans which dish follows which satellite's pass, so that no plan is
 worth more, and prints what the plan is worth and who follows what.
 
-    zincsmock [--timeline | --svg] [FILE]
+    zincsmock [--timeline | --svg | --why] [FILE]
     zincsmock --help | --version
 
 FILE, or else standard input, is a list as text, one thing to a line:
@@ -19,6 +19,7 @@ Passes come in order of begin, at most 48, up to second and worth 1000000.
 Dishes count from 0. A name is 1 to 32 letters, digits, - _ or .
 
 --timeline draws the plan as text, and --svg as a drawing for a browser.
+--why prints the plan, and of each pass what it would have to be worth.
 A list that is turned away is told on standard error, and the status is 1.
 ";
 
@@ -93,6 +94,8 @@ fn view_named(option: &str) -> Option<View>
         Some(View::Timeline)
     } else if option == "--svg" {
         Some(View::Svg)
+    } else if option == "--why" {
+        Some(View::Why)
     } else {
         None
     }

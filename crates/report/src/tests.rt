@@ -20,6 +20,14 @@ fn answers(rt: HostRuntime) -> Result<(), Fail> {
         plan.as_str(),
         "worth 25\ndish 0: second fifth\ndish 1: hermes fourth\nnot followed: third\n"
     );
+    let one = "dishes 1 turn 0\npass a 0 9 worth 2 dishes 0\n";
+    let Answer::Planned(why) = respond(rt.alloc(), View::Why, one.as_bytes())? else {
+        return Err(Fail::from("the list was turned away"));
+    };
+    assert_eq!(rt;
+        why.as_str(),
+        "worth 2\ndish 0: a\nnot followed:\na: followed; it could be worth 2 less\n"
+    );
     let Answer::TurnedAway(line) = respond(rt.alloc(), View::Svg, b"")? else {
         return Err(Fail::from("a text without a list was taken"));
     };
@@ -40,13 +48,14 @@ fn owned(alloc: Global, args: &[&str]) -> Result<Vec<String>, AllocError> {
 #[test]
 fn requests(rt: HostRuntime) -> Result<(), Fail> {
     let plan = |view, path| Request::Plan { view, path };
-    let cases: [(&[&str], Request); 10] = [
+    let cases: [(&[&str], Request); 11] = [
         (&[], plan(View::Plan, None)),
         (&["--help"], Request::Help),
         (&["--version"], Request::Version),
         (&["night.txt"], plan(View::Plan, Some("night.txt"))),
         (&["--timeline"], plan(View::Timeline, None)),
         (&["--svg", "night.txt"], plan(View::Svg, Some("night.txt"))),
+        (&["--why", "night.txt"], plan(View::Why, Some("night.txt"))),
         (&["--svg", "--timeline"], Request::Unknown),
         (&["--picture"], Request::Unknown),
         (&["night.txt", "--svg"], Request::Unknown),

@@ -1,0 +1,5 @@
+pub mod Lengths
+pub mod Places
+pub mod Asked
+pub mod Joining
+pub mod OneByOne

@@ -1,0 +1,3 @@
+pub mod Others
+pub mod TrueReasons
+pub mod Words
