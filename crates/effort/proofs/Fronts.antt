@@ -1,8 +1,9 @@
 -- Why the front of a list that is taken is taken too, and what may be planned. Assumes nothing.
-use Rattle.std.proofs.Common.{◌≡◌, ℕ, ◌+◌, ◌-◌, ◌*◌, ◌/◌, ◌<◌, true, List, length, take, eq-eqb, Some, None, Option, Ok, Err, Result, sym, refl, ap, ◌∙◌, arith, slice_index}
+use Rattle.std.proofs.Common.{◌≡◌, ℕ, ◌-◌, ◌*◌, ◌/◌, ◌<◌, true, List, length, take, eq-eqb, Some, None, Option, Ok, Err, Result, sym, refl, ap, ◌∙◌, arith, slice_index}
 use Rattle.std.specs.Prelude.{is_none, IsOk}
 use Rattle.std.specs.Result.{result_err}
 use Rattle.std.proofs.lemmas.List.{get_or-take, length-take}
+use Rattle.sensitivity.specs.Answers.{refused_with_rooms}
 use Rattle.passes.specs.declared.refusals.Refusal.{Refusal}
 use Rattle.passes.specs.Checks.{in_range, dishes_ok, turning_ok}
 use Rattle.passes.specs.Numbers.{passes_in, sound, begun, first_fault}
@@ -60,6 +61,13 @@ module _ (turn : ℕ) (xs : List ℕ) (taken : is_none (refused 4 turn xs) ≡ t
   room_taken room h =
       let same : room ≡ length (passes_in xs) = h ∙ sym (length-passes_in xs) in
       rw (not_refused, same, eq-eqb (length (passes_in xs)) (length (passes_in xs)) refl) refl
+
+  -- nor are two such rooms
+  pub rooms_taken : (room second : ℕ) → room ≡ length xs / 4 → second ≡ length xs / 4 → refused_with_rooms 4 turn xs room second ≡ None
+  unfolding room_refused
+  rooms_taken room second h k =
+      let same : second ≡ length (passes_in xs) = k ∙ sym (length-passes_in xs) in
+      rw (room_taken room h, same, eq-eqb (length (passes_in xs)) (length (passes_in xs)) refl) refl
 
   -- nor is it for one dish
   pub alone_taken : (room : ℕ) → room ≡ length xs / 4 → refused_with_room 1 turn xs room ≡ None

@@ -5,10 +5,11 @@ ghost use Rattle.std.specs.Float.Ieee.{div};
 ghost use Rattle.std.specs.Duration.{as_secs_f64};
 ghost use Rattle.effort.specs.Ways.{VisitsBy};
 
-use crate::cases::Case;
+use crate::cases::{Case, DISHES};
 use crate::searching::{plan_by_plain_search, plan_by_planner};
 use crate::spread::Spread;
 use capacity::plan_one_dish;
+use sensitivity::try_why;
 use std::alloc::{AllocError, Global};
 use std::io;
 use std::time::{Duration, Instant};
@@ -23,6 +24,8 @@ enum Way {
     PlainSearch,
     // For one dish in place of four, from a table.
     OneDish,
+    // By the planner, with what each pass has to be worth.
+    Why,
 }
 
 impl Way {
@@ -38,6 +41,13 @@ impl Way {
                 let mut room = vec![in alloc; 0; numbers.len() / 4]?;
                 plan_one_dish(case.turn, numbers, room.as_mut_slice()).unwrap();
                 Ok(0)
+            }
+            Way::Why => {
+                let numbers = case.numbers.as_slice();
+                let mut room = vec![in alloc; 0; numbers.len() / 4]?;
+                let mut needed = vec![in alloc; 0; numbers.len() / 4]?;
+                let counted = try_why(DISHES, case.turn, numbers, &mut room, &mut needed);
+                Ok(counted.unwrap().visited)
             }
         }
     }
@@ -88,7 +98,13 @@ pub fn print_times(rt: &HostRuntime, cases: &[Case]) -> io::Result<()> {
     let alone = Effort::of(rt, Way::OneDish, cases)?;
     let long = planner.times_as_long(&alone);
     println!(rt; "  {long:.1} times as long as one dish alone")?;
+    let why = Effort::of(rt, Way::Why, cases)?;
+    let long = why.times_as_long(&planner);
     if let Some(spread) = Spread::of(planner.each) {
+        println!(rt; "  microseconds for a list: {spread}")?;
+    }
+    println!(rt; "  with what each pass has to be worth: {long:.1} times as long")?;
+    if let Some(spread) = Spread::of(why.each) {
         println!(rt; "  microseconds for a list: {spread}")?;
     }
     let fronts = fronts(rt.alloc(), cases)?;

@@ -1,3 +1,4 @@
 pub mod Kinds
+pub mod Needs
 pub mod Numbered
 pub mod Trials

@@ -35,7 +35,7 @@ fn worth_if_good(night: &Night, plan: &[u8]) -> u64
 }
 
 // Writes the plan that a number stands for: its digits, of which there are `base`, the first pass's first.
-fn write_plan(number: u64, base: u64, room: &mut [u8])
+pub(crate) fn write_plan(number: u64, base: u64, room: &mut [u8])
     requires some { 0 < base }
     requires few { base ≤ 256 }
     ensures { room.new ≡ plan_numbered base number (length room.old) }

@@ -1,8 +1,13 @@
 // Random cases: a station, and a list of passes over it.
-ghost use Rattle.std.specs.Prelude.{◌≡◌, ◌*◌, ◌≤◌, None, IfOk, length};
+ghost use Rattle.std.specs.Prelude.{◌≡◌, ◌*◌, ◌<◌, ◌≤◌, None, IfOk, length};
+ghost use Rattle.passes.specs.Checks.{max_worth};
+ghost use Rattle.passes.specs.Nights.{station_of};
+ghost use Rattle.passes.specs.Numbers.{passes_in};
 ghost use Rattle.passes.specs.Refusals.{refused};
+ghost use Rattle.sensitivity.specs.Needing.{with_worth};
 ghost use Rattle.trials.specs.declared.kinds.TheConstants.{TRIED_PASSES};
 ghost use Rattle.trials.specs.Kinds.{ListOf};
+ghost use Rattle.trials.specs.Needs.{CanBeTried};
 
 use crate::kinds::Kind;
 use rand::{Rng, RngExt};
@@ -35,6 +40,24 @@ impl Case {
         Ok(Case {
             dishes: dishes as u64,
             turn,
+            numbers,
+        })
+    }
+
+    // The same case with pass `place` worth so much.
+    pub fn with_worth(&self, alloc: Global, place: usize, worth: u32) -> Result<Case, AllocError>
+        requires tried { CanBeTried self.now.dishes self.now.turn self.now.numbers.items }
+        requires within { place < length (passes_in self.now.numbers.items) }
+        requires small { worth ≤ max_worth }
+        ensures tried { IfOk result (λ case. CanBeTried case.dishes case.turn case.numbers.items) }
+        ensures station { IfOk result (λ case. station_of case.dishes case.turn ≡ station_of self.now.dishes self.now.turn) }
+        ensures passes { IfOk result (λ case. passes_in case.numbers.items ≡ with_worth (passes_in self.now.numbers.items) place worth) }
+    {
+        let mut numbers = Vec::from_slice(alloc, self.numbers.as_slice())?;
+        numbers[4 * place + 2] = worth;
+        Ok(Case {
+            dishes: self.dishes,
+            turn: self.turn,
             numbers,
         })
     }

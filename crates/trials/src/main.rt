@@ -1,17 +1,21 @@
-// Plans random cases, and compares each plan with all plans.
+// Plans random cases, and asks what their passes need; and compares each plan and each answer with all plans.
 #![tactic(auto)]
 
 ghost use Rattle.std.specs.Prelude.{◌≡◌, IfOk, All, vec_len};
-ghost use Rattle.trials.specs.declared.TheConstants.{CASES};
+ghost use Rattle.trials.specs.declared.TheConstants.{CASES, NEEDS};
+ghost use Rattle.trials.specs.Needs.{AskedOfLists};
 ghost use Rattle.trials.specs.Trials.{TriedOf};
 
 mod all_plans;
 mod cases;
+mod followed;
 mod kinds;
+mod needs;
 mod trying;
 
 use cases::Case;
 use kinds::Kind;
+use needs::{Asked, AskedScore, ask_each};
 use rand::SeedableRng;
 use rand::rngs::SmallRng;
 use std::io;
@@ -21,6 +25,9 @@ const SEED: u64 = 1;
 
 // How many cases of each kind are tried.
 const CASES: u32 = 1000;
+
+// Of how many more cases of each kind it is asked what their passes need.
+const NEEDS: u32 = 100;
 
 const KINDS: [Kind; 8] = [
     Kind::NoPasses,
@@ -50,13 +57,47 @@ fn try_kind(rt: &HostRuntime, rng: &mut SmallRng, kind: Kind) -> io::Result<Vec<
     Ok(trials)
 }
 
-fn main(rt: HostRuntime) -> io::Result<()> {
-    let mut rng = SmallRng::seed_from_u64(SEED);
+// Asks what the passes of random cases of a kind need, and prints those cases of which all plans say otherwise.
+fn ask_kind(rt: &HostRuntime, rng: &mut SmallRng, kind: Kind) -> io::Result<Vec<Asked>>
+    ensures { IfOk result (λ asked. AskedOfLists kind NEEDS asked.items) }
+{
+    let mut all = Vec::new(rt.alloc());
+    for _ in 0..NEEDS {
+        let case = Case::random(rt.alloc(), kind, rng)?;
+        let asked = ask_each(rt.alloc(), &case)?;
+        if asked.contains(&Asked::Mismatch) {
+            println!(rt; "{kind}: mismatch of what passes need at {case:?}")?;
+        }
+        all.extend_from_slice(asked.as_slice())?;
+    }
+    Ok(all)
+}
+
+// Tries random cases of each kind, and prints what came of each kind and of all.
+fn try_kinds(rt: &HostRuntime, rng: &mut SmallRng) -> io::Result<()> {
     let mut all = Vec::new(rt.alloc());
     for kind in KINDS {
-        let trials = try_kind(&rt, &mut rng, kind)?;
+        let trials = try_kind(rt, rng, kind)?;
         println!(rt; "{kind}: {}", Score::of(trials.as_slice()))?;
         all.extend_from_slice(trials.as_slice())?;
     }
     println!(rt; "all: {}", Score::of(all.as_slice()))
+}
+
+// Asks what the passes of random cases of each kind need, and prints what came of each kind and of all.
+fn ask_kinds(rt: &HostRuntime, rng: &mut SmallRng) -> io::Result<()> {
+    let mut all = Vec::new(rt.alloc());
+    for kind in KINDS {
+        let asked = ask_kind(rt, rng, kind)?;
+        println!(rt; "{kind}: {}", AskedScore::of(NEEDS, asked.as_slice()))?;
+        all.extend_from_slice(asked.as_slice())?;
+    }
+    let lists = NEEDS * KINDS.len() as u32;
+    println!(rt; "all: {}", AskedScore::of(lists, all.as_slice()))
+}
+
+fn main(rt: HostRuntime) -> io::Result<()> {
+    let mut rng = SmallRng::seed_from_u64(SEED);
+    try_kinds(&rt, &mut rng)?;
+    ask_kinds(&rt, &mut rng)
 }
