@@ -105,7 +105,7 @@ fn scattered() -> [[u32; 4]; 48] {
     })
 }
 
-// With passes left at their worth while they are forced or forbidden, many more states are visited.
+// What all passes of a list need that is hard to plan, and how many states are visited for it, which is no promise.
 #[test]
 fn few_states_are_visited(rt: HostRuntime) {
     let mut room = [9; 48];
