@@ -8,10 +8,10 @@ use Rattle.passes.specs.Checks.{checked, in_range, all_in_range}
 use Rattle.passes.specs.Plans.{Plan, fits, worth_of, Best}
 use Rattle.passes.proofs.Checking.{checked_says}
 use Rattle.planner.specs.Ruled.{follows}
-use Rattle.sensitivity.specs.Needing.{NeededWorth, SomeBestFollows, with_worth}
+use Rattle.sensitivity.specs.Needing.{BestOf, NeededWorth, SomeBestFollows, with_worth}
 use Rattle.sensitivity.specs.Statements.{BelowNever}
 use Rattle.sensitivity.proofs.Needs.{split, split_own}
-use Rattle.sensitivity.proofs.Stations.{fits_long}
+use Rattle.sensitivity.proofs.Stations.{fits_long, needed_in_general}
 use Rattle.sensitivity.proofs.Worths.{fits_same}
 
 -- no plan of passes in range is worth more than so much for each pass
@@ -33,37 +33,44 @@ small_worth s ps ds ok =
     let ranges : all_in_range ps ≡ true = grind (arith, nat_tests) in
     omega (arith, (checked_says s ps ok).few, in_range_worth ps ds ranges)
 
--- so no pass needs more
-pub below_never : BelowNever
-unfolding Best
-below_never s ps i v ok within needs =
+-- so no pass needs more, whichever plans are good
+pub low_needed :
+    (s : Station) (good : List Pass → Plan → Bool) (ps : List Pass) (i v : ℕ) → i < length ps →
+    ((w : ℕ) (ds : Plan) → good (with_worth ps i w) ds ≡ good ps ds) → ((ds : Plan) → good ps ds ≡ true → length ds ≡ length ps) →
+    checked s ps ≡ true → NeededWorth (BestOf good) ps i v → v ≤ 48000000
+low_needed s good ps i v within steady one_each ok needs =
     ⊎_elim
     (λ (big : 48000000 < v). absurd (needs.none_below 48000000 big enough))
     (λ (small : v ≤ 48000000). small)
     (cases_lt 48000000 v)
   where
-    earns : (b : Bool) (w : ℕ) (ds : Plan) → fits s ps ds ≡ true → follows ds i ≡ b → worth_of (with_worth ps i w) ds ≡ worth_of (with_worth ps i 0) ds + cond b w 0
-    earns = split (fits s) ps i within (fits_same s ps i) (fits_long s ps)
+    earns : (b : Bool) (w : ℕ) (ds : Plan) → good ps ds ≡ true → follows ds i ≡ b → worth_of (with_worth ps i w) ds ≡ worth_of (with_worth ps i 0) ds + cond b w 0
+    earns = split good ps i within steady one_each
 
-    enough : SomeBestFollows (Best s) (with_worth ps i 48000000) i
+    enough : SomeBestFollows (BestOf good) (with_worth ps i 48000000) i
     enough =
         let (es, best, asked) = needs.from_there v (omega arith) in
-        let good = sym (fits_same s ps i v es) ∙ best.0 in (
+        let is_good = sym (steady v es) ∙ best.0 in (
           es,
           (
-            fits_same s ps i 48000000 es ∙ good,
+            steady 48000000 es ∙ is_good,
             λ fs fits_it.
-                let h = sym (fits_same s ps i 48000000 fs) ∙ fits_it in
-                let here = earns true 48000000 es good asked in
+                let h = sym (steady 48000000 fs) ∙ fits_it in
+                let here = earns true 48000000 es is_good asked in
                 ⊎_elim
-                (λ does. let more = best.1 fs (fits_same s ps i v fs ∙ h) in omega (arith, here, earns true 48000000 fs h does, earns true v fs h does, earns true v es good asked))
+                (λ does. let more = best.1 fs (steady v fs ∙ h) in omega (arith, here, earns true 48000000 fs h does, earns true v fs h does, earns true v es is_good asked))
                 (λ leaves.
-                let own = split_own (fits s) ps i within (fits_same s ps i) (fits_long s ps) false fs h leaves in
+                let own = split_own good ps i within steady one_each false fs h leaves in
                 omega (arith, here, earns false 48000000 fs h leaves, small_worth s ps fs ok))
                 (cases_Bool (follows fs i)),
           ),
           asked,
         )
+
+-- nor does one of a station's night
+pub below_never : BelowNever
+below_never s ps i v ok within needs =
+    low_needed s (fits s) ps i v within (fits_same s ps i) (fits_long s ps) ok (needed_in_general s ps i v needs)
 
 -- no number that a pass of a list that passes the checks needs is that of never
 pub not_never : (s : Station) (ps : List Pass) (i v : ℕ) → checked s ps ≡ true → i < length ps → NeededWorth (Best s) ps i v → v ≡ 4294967295 → ⊥

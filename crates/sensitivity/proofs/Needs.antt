@@ -1,11 +1,13 @@
 -- What a pass needs, by the best among the plans that follow it and the best among those that don't, whichever plans are good. Assumes nothing.
-use Rattle.std.proofs.Common.{◌≡◌, ℕ, ◌+◌, ◌-◌, ◌<◌, ◌≤◌, Bool, true, false, cond, List, length, sym, ap, ◌∙◌, ⊎_elim, arith}
+use Rattle.std.proofs.Common.{◌≡◌, ℕ, ◌+◌, ◌-◌, ◌<◌, ◌≤◌, Bool, true, false, cond, List, length, refl, sym, ap, ◌∙◌, ⊎_elim, arith}
 use Rattle.std.proofs.lemmas.Bool.{both_ways, cases_Bool, cases_lt, false_from_ne_true}
 use Rattle.passes.specs.declared.model.Pass.{Pass}
 use Rattle.passes.specs.Plans.{Plan, worth_of}
 use Rattle.passes.specs.Rule.{nth}
-use Rattle.planner.specs.Ruled.{follows}
-use Rattle.sensitivity.specs.Needing.{with_worth, BestOf, SomeBestFollows, NeededWorth, NoneFollows, BestAsked}
+use Rattle.planner.specs.Ruled.{follows, BestBy}
+use Rattle.sensitivity.specs.declared.needed.Needed.{Needed}
+use Rattle.sensitivity.specs.declared.needed.Needed.TheVariants.{Worth, Never}
+use Rattle.sensitivity.specs.Needing.{with_worth, BestOf, SomeBestFollows, SomeBestLeavesOf, NeededWorth, NoneFollows, TrueOf, BestAsked}
 use Rattle.sensitivity.proofs.Worths.{own_worth, worth_split}
 
 -- a pass has at most one needed worth
@@ -20,6 +22,29 @@ one_needed best ps i v w needs needs₁ =
     (λ (no_more : v ≤ w). omega arith)
     (cases_lt w v))
     (cases_lt v w)
+
+-- what a pass needs is at most its worth exactly if some best plan follows it
+pub enough_exactly :
+    (best : List Pass → Plan → Type 0) (ps : List Pass) (i v : ℕ) → NeededWorth best ps i v →
+    (v ≤ (nth ps i).worth → SomeBestFollows best ps i) × (SomeBestFollows best ps i → v ≤ (nth ps i).worth)
+enough_exactly best ps i v needs = (
+  λ l. rw (own_worth ps i) at (needs.from_there (nth ps i).worth l),
+  λ some.
+      ⊎_elim
+      (λ (less : (nth ps i).worth < v). absurd (needs.none_below (nth ps i).worth less (rw (own_worth ps i) some)))
+      (λ (enough : v ≤ (nth ps i).worth). enough)
+      (cases_lt (nth ps i).worth v),
+)
+
+-- a true word on a pass is never exactly if no good plan follows it, whatever it is worth
+pub never_if_none :
+    (good : List Pass → Plan → Bool) (ps : List Pass) (i : ℕ) (n : Needed) → TrueOf good (BestOf good) ps i n →
+    (n ≡ Never → NoneFollows good ps i) × (NoneFollows good ps i → n ≡ Never)
+never_if_none good ps i Never told = (λ same. told, λ none. refl)
+never_if_none good ps i (Worth v) told = (
+  λ same. absurd (grind arith),
+  λ none. let (ds, best, asked) = told.from_there v (omega arith) in absurd (both_ways _ (none v ds best.0) asked),
+)
 
 module _
     (good : List Pass → Plan → Bool) (ps : List Pass) (i : ℕ) (within : i < length ps)
@@ -110,5 +135,36 @@ module _
   none_follows none v ds h = false_from_ne_true (follows ds i) (none ds (sym (steady v ds) ∙ h))
 
   -- a best plan is a best one among those that follow the pass if it does, and among those that don't if it doesn't
-  pub best_as_it_does : (b : Bool) (ds : Plan) → BestOf good ps ds → follows ds i ≡ b → BestAsked good b ps i ds
-  best_as_it_does b ds best asked = record { is_good = best.0; asked = asked; most = λ es h _. best.1 es h }
+  pub best_as_it_does : (b : Bool) (ds : Plan) (w : ℕ) → BestBy good ps ds w → follows ds i ≡ b → BestAsked good b ps i ds
+  best_as_it_does b ds w best asked = record { is_good = best.is_good; asked = asked; most = λ es h _. rw best.worth at (best.most es h) }
+
+  -- where a pass needs just what it is worth, and is worth something, some best plan doesn't follow it, if there is a best plan at each worth of it
+  pub some_best_leaves :
+      ((w : ℕ) → (ds : Plan) × BestOf good (with_worth ps i w) ds) → 0 < (nth ps i).worth → NeededWorth (BestOf good) ps i (nth ps i).worth →
+      SomeBestLeavesOf (BestOf good) ps i
+  some_best_leaves has some needs =
+      let w = (nth ps i).worth - 1 in
+      let (es, best) = has w in
+      let is_good = sym (steady w es) ∙ best.0 in
+      let none : SomeBestFollows (BestOf good) (with_worth ps i w) i → ⊥ = needs.none_below w (omega arith) in
+      let leaves = false_from_ne_true (follows es i) (λ does. none (es, best, does)) in
+      let here = split false w es is_good leaves in
+      let now = split_own false es is_good leaves in (
+        es,
+        (
+          is_good,
+          λ fs h.
+              let at_w = best.1 fs (steady w fs ∙ h) in
+              ⊎_elim
+              (λ does.
+              let there = split true w fs h does in
+              ⊎_elim
+              (λ (less : worth_of (with_worth ps i w) fs < worth_of (with_worth ps i w) es). omega (arith, there, here, now, split_own true fs h does))
+              (λ (as_much : worth_of (with_worth ps i w) es ≤ worth_of (with_worth ps i w) fs).
+              absurd (none (fs, (steady w fs ∙ h, λ gs fits_it. omega (arith, best.1 gs fits_it)), does)))
+              (cases_lt (worth_of (with_worth ps i w) fs) (worth_of (with_worth ps i w) es)))
+              (λ out. omega (arith, split false w fs h out, here, now, split_own false fs h out))
+              (cases_Bool (follows fs i)),
+        ),
+        leaves,
+      )

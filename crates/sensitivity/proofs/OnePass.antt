@@ -11,16 +11,17 @@ use Rattle.passes.specs.declared.model.Pass.{Pass}
 use Rattle.passes.specs.declared.model.Station.{Station}
 use Rattle.passes.specs.Plans.{Plan, fits, Best}
 use Rattle.passes.specs.Rule.{says}
-use Rattle.planner.specs.Ruled.{PlannedBy, fits_by, follows}
+use Rattle.capacity.specs.Alone.{BestPlanWorth}
+use Rattle.planner.specs.Ruled.{BestBy, PlannedBy, fits_by, follows}
 use Rattle.sensitivity.specs.declared.pass_rules.PassRule.{PassRule}
 use Rattle.sensitivity.specs.declared.pass_rules.PassRule.TheVariants.{Forced, Forbidden}
 use Rattle.sensitivity.specs.declared.needed.Needed.{Needed}
 use Rattle.sensitivity.specs.declared.needed.Needed.TheVariants.{Worth, Never}
-use Rattle.sensitivity.specs.Answers.{LeftBy, LeftFor}
+use Rattle.sensitivity.specs.Answers.{LeftBy}
 use Rattle.sensitivity.specs.Needing.{with_worth, BestAsked, BestOf, NeededWorth, NoneFollows, TrueOf, Told}
 use Rattle.sensitivity.specs.PassRules.{ruled_pass, forces, refuses, pass_automaton, PassRuleMeans, AskedAnswered}
 use Rattle.sensitivity.proofs.Needs.{asked_at}
-use Rattle.sensitivity.proofs.Stations.{fits_long, best_in_general, needed_of_station}
+use Rattle.sensitivity.proofs.Stations.{fits_long, needed_of_station}
 use Rattle.sensitivity.proofs.Worths.{fits_same}
 
 -- the rule refuses nothing of other passes
@@ -115,13 +116,23 @@ by_anything s = λ t ps ds. same ps ds t
 
 module _ (s : Station) (ps : List Pass) where
   -- so a best plan is a best one by that rule
-  pub best_by_anything : (ds : Plan) → Best s ps ds → BestOf (fits_by s anything) ps ds
-  best_by_anything ds best = subst (λ good. BestOf good ps ds) (sym (by_anything s)) (best_in_general s ps ds best)
+  pub best_by_anything : (ds : Plan) (w : ℕ) → BestPlanWorth s ps ds w → BestBy (fits_by s anything) ps ds w
+  unfolding Best
+  best_by_anything ds w h =
+      subst (λ good. BestBy good ps ds w) (sym (by_anything s)) (record { is_good = h.best.0; worth = h.worth; most = λ es good. rw h.worth (h.best.1 es good) })
+
+  -- and a best one by that rule is a best plan
+  pub best_of_all : (ds : Plan) (w : ℕ) → BestBy (fits_by s anything) ps ds w → BestPlanWorth s ps ds w
+  unfolding Best
+  best_of_all ds w h =
+      let best = subst (λ good. BestBy good ps ds w) (by_anything s) h in
+      record { best = (best.is_good, λ es good. rw best.worth at (best.most es good)); worth = best.worth }
 
   -- and what is said of a pass by that rule is the word on it
   pub told_by_anything : (i : ℕ) (n : Needed) → TrueOf (fits_by s anything) (BestOf (fits_by s anything)) ps i n → Told s ps i n
   told_by_anything i (Worth v) h = needed_of_station s ps i v (subst (λ good. NeededWorth (BestOf good) ps i v) (by_anything s) h)
   told_by_anything i Never h = subst (λ good. NoneFollows good ps i) (by_anything s) h
 
-  pub left_by_anything : (i : ℕ) (n : Needed) (room after : Plan) → LeftBy (fits_by s anything) ps i room n after → LeftFor s ps i room n after
+  -- and what is left in the room is what is left there for the good plans
+  pub left_by_anything : (i : ℕ) (n : Needed) (room after : Plan) → LeftBy (fits_by s anything) ps i room n after → LeftBy (fits s) ps i room n after
   left_by_anything i n room after h = subst (λ good. LeftBy good ps i room n after) (by_anything s) h

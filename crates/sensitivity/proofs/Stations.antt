@@ -1,7 +1,7 @@
 -- What the passes of a station's night need: the theorems about the definitions. Assumes nothing.
-use Rattle.std.proofs.Common.{Bool, List, [], arith, cond, false, get_or-set_other, get_or-set_same, length, length-set, refl, replicate, set, suc, sym, true, zero, ℕ, ⊎_elim, ◌+◌, ◌-◌, ◌<◌, ◌∙◌, ◌∷◌, ◌≡◌, ◌≤◌}
+use Rattle.std.proofs.Common.{List, [], arith, false, get_or-set_other, get_or-set_same, length, length-set, replicate, set, suc, sym, true, zero, ℕ, ⊎_elim, ◌+◌, ◌-◌, ◌<◌, ◌∙◌, ◌∷◌, ◌≡◌, ◌≤◌}
 use Rattle.std.proofs.lemmas.List.{length-replicate}
-use Rattle.std.proofs.lemmas.Bool.{both_ways, cases_Bool, cases_eq, cases_lt, false_from_ne_true, le-ltb, lt-ltb, ltb-true}
+use Rattle.std.proofs.lemmas.Bool.{both_ways, cases_eq, cases_lt, false_from_ne_true, le-ltb, lt-ltb, ltb-true}
 use Rattle.std.proofs.lemmas.Bool.Decides.{nat_tests}
 use Rattle.passes.specs.declared.model.Pass.{Pass}
 use Rattle.passes.specs.declared.model.Station.{Station}
@@ -11,21 +11,15 @@ use Rattle.passes.specs.Rule.{nth, says}
 use Rattle.passes.proofs.Goodness.{fits_says, fits_from}
 use Rattle.capacity.proofs.Greedy.{all_zero, none_followed, given_good}
 use Rattle.planner.specs.Ruled.{follows}
-use Rattle.sensitivity.specs.Needing.{BestOf, NeededWorth, SomeBestFollows, with_worth}
-use Rattle.sensitivity.specs.declared.needed.Needed.TheVariants.{Worth, Never}
+use Rattle.sensitivity.specs.Needing.{BestOf, NeededWorth, with_worth}
 use Rattle.sensitivity.specs.Statements.{OnlyOne, AsWell, Lowered, NoDish, NeverExactly, LeavesAsWell, Difference}
 use Rattle.sensitivity.proofs.Worths.{own_worth, fits_same}
-use Rattle.sensitivity.proofs.Needs.{one_needed, needed_of_both, split, split_own}
+use Rattle.sensitivity.proofs.Needs.{one_needed, enough_exactly, never_if_none, needed_of_both, split_own, some_best_leaves}
 use Rattle.planner.proofs.Finite.{has_best}
 
 -- a good plan has a number for each pass
 pub fits_long : (s : Station) (ps : List Pass) (ds : Plan) → fits s ps ds ≡ true → length ds ≡ length ps
 fits_long s ps ds good = (fits_says s ps ds good).one_each
-
--- a best plan of a station is a best one where the station's good plans are given
-pub best_in_general : (s : Station) (ps : List Pass) (ds : Plan) → Best s ps ds → BestOf (fits s) ps ds
-unfolding Best
-best_in_general s ps ds best = best
 
 module _ (s : Station) (ps : List Pass) (i v : ℕ) where
   -- what a pass needs where a station's good plans are given, it needs for the station
@@ -44,14 +38,7 @@ only_one s = one_needed (Best s)
 
 -- what a pass needs is at most its worth exactly if some best plan follows it
 pub as_well : AsWell
-as_well s ps i v within needs = (
-  λ l. rw (own_worth ps i) at (needs.from_there (nth ps i).worth l),
-  λ some.
-      ⊎_elim
-      (λ (less : (nth ps i).worth < v). absurd (needs.none_below (nth ps i).worth less (rw (own_worth ps i) some)))
-      (λ (enough : v ≤ (nth ps i).worth). enough)
-      (cases_lt (nth ps i).worth v),
-)
+as_well s ps i v within needs = enough_exactly (Best s) ps i v needs
 
 -- a pass that some best plan follows can lose what it is worth less what it needs, and no more
 pub lowered : Lowered
@@ -92,11 +79,7 @@ no_dish s ps i within = (
 -- a true word on a pass is never exactly if no good plan follows it
 pub never_exactly : NeverExactly
 unfolding Best
-never_exactly s ps i Never told = (λ same. told, λ none. refl)
-never_exactly s ps i (Worth v) told = (
-  λ same. absurd (grind arith),
-  λ none. let (ds, best, asked) = told.from_there v (omega arith) in absurd (both_ways _ (none v ds best.0) asked),
-)
+never_exactly s ps i n told = never_if_none (fits s) ps i n told
 
 -- a good plan stays good where it leaves out some of what it follows
 fits_fewer :
@@ -159,48 +142,19 @@ unfolding Best
 leaves_as_well s ps i within needs =
     ⊎_elim
     (λ (some : 0 < (nth ps i).worth).
-    let w = (nth ps i).worth - 1 in
-    let (es, best) = has_best s (with_worth ps i w) in
-    let good = sym (fits_same s ps i w es) ∙ best.0 in
-    let none : SomeBestFollows (Best s) (with_worth ps i w) i → ⊥ = needs.none_below w (omega arith) in
-    let leaves = false_from_ne_true (follows es i) (λ does. none (es, best, does)) in
-    let here = earns false w es good leaves in
-    let now = earns_now false es good leaves in (
-      es,
-      (
-        good,
-        λ fs h.
-            let at_w = best.1 fs (fits_same s ps i w fs ∙ h) in
-            ⊎_elim
-            (λ does.
-            let there = earns true w fs h does in
-            ⊎_elim
-            (λ (less : worth_of (with_worth ps i w) fs < worth_of (with_worth ps i w) es). omega (arith, there, here, now, earns_now true fs h does))
-            (λ (as_much : worth_of (with_worth ps i w) es ≤ worth_of (with_worth ps i w) fs).
-            absurd (none (fs, (fits_same s ps i w fs ∙ h, λ gs fits_it. omega (arith, best.1 gs fits_it)), does)))
-            (cases_lt (worth_of (with_worth ps i w) fs) (worth_of (with_worth ps i w) es)))
-            (λ out. omega (arith, earns false w fs h out, here, now, earns_now false fs h out))
-            (cases_Bool (follows fs i)),
-      ),
-      leaves,
-    ))
+    some_best_leaves (fits s) ps i within (fits_same s ps i) (fits_long s ps) (λ w. has_best s (with_worth ps i w)) some (needed_in_general s ps i _ needs))
     (λ (nothing : (nth ps i).worth ≤ 0).
     let (es, best, asked) = needs.from_there (nth ps i).worth (omega arith) in
     let good = sym (fits_same s ps i (nth ps i).worth es) ∙ best.0 in
     let long = fits_long s ps es good in
     let here : i < length es = omega arith in
-    let more = rw (own_worth ps i) at best.1 in (
+    let more = rw (own_worth ps i) at best.1 in
+    let now = split_own (fits s) ps i within (fits_same s ps i) (fits_long s ps) true es good asked in (
       set es i 0,
       (
         left_out_fits s ps i es here good,
-        λ fs h. let most = more fs h in omega (arith, left_out_worth ps i es within long, earns_now true es good asked),
+        λ fs h. let most = more fs h in omega (arith, left_out_worth ps i es within long, now),
       ),
       left_out_follows i es here,
     ))
     (cases_lt 0 (nth ps i).worth)
-  where
-    earns : (b : Bool) (w : ℕ) (ds : Plan) → fits s ps ds ≡ true → follows ds i ≡ b → worth_of (with_worth ps i w) ds ≡ worth_of (with_worth ps i 0) ds + cond b w 0
-    earns = split (fits s) ps i within (fits_same s ps i) (fits_long s ps)
-
-    earns_now : (b : Bool) (ds : Plan) → fits s ps ds ≡ true → follows ds i ≡ b → worth_of ps ds ≡ worth_of (with_worth ps i 0) ds + cond b (nth ps i).worth 0
-    earns_now = split_own (fits s) ps i within (fits_same s ps i) (fits_long s ps)

@@ -7,6 +7,7 @@ use Rattle.passes.specs.declared.refusals.Refusal.TheVariants.{BadPass}
 use Rattle.passes.specs.Numbers.{passes_in}
 use Rattle.passes.specs.Plans.{Plan, fits, worth_of, Best}
 use Rattle.passes.specs.Refusals.{number_of, or_else, refused_with_room, room_refused}
+use Rattle.planner.specs.Ruled.{BestBy}
 use Rattle.planner.specs.declared.planning.Done.{Done}
 use Rattle.planner.specs.declared.planning.Done.TheVariants.{Planned, Refused}
 use Rattle.sensitivity.specs.declared.needed.Needed.{Needed}
@@ -49,16 +50,11 @@ abbrev pub LeftBy : (good : List Pass → Plan → Bool) → List Pass → ℕ �
 LeftBy good ps i room (Worth v) room₁ = BestAsked good true ps i room₁
 LeftBy good ps i room Never room₁ = room₁ ≡ room
 
--- the same for a station's good plans
-abbrev pub LeftFor : Station → List Pass → ℕ → (room : Plan) → Needed → (room₁ : Plan) → Type 0
-LeftFor s ps i room needed room₁ = LeftBy (fits s) ps i room needed room₁
-
 -- of pass i can be asked beside the plan ds, a best one that is worth so much, with a room for a plan, where it is given which plans are good
 pub record CanAsk (good : List Pass → Plan → Bool) (ps : List Pass) (ds : Plan) (worth i : ℕ) (room : Plan) : Type 0 where
   pub within : i < length ps
   pub one_each : length room ≡ length ps
-  pub best : BestOf good ps ds
-  pub worth_is : worth ≡ worth_of ps ds
+  pub best : BestBy good ps ds worth
 
 -- what was found of pass i is true, and so is what is left in the room, where it is given which plans are good
 pub record TrulyFound (good : List Pass → Plan → Bool) (ps : List Pass) (i : ℕ) (room : Plan) (needed : Needed) (room₁ : Plan) : Type 0 where

@@ -5,8 +5,7 @@ use Rattle.passes.specs.declared.model.Station.{Station}
 use Rattle.passes.specs.Plans.{Plan, fits, worth_of, Best}
 use Rattle.passes.specs.Rule.{nth}
 use Rattle.passes.specs.Follow.{may}
-use Rattle.planner.specs.Ruled.{follows}
-use Rattle.capacity.specs.Alone.{BestPlanWorth}
+use Rattle.planner.specs.Ruled.{follows, BestBy}
 use Rattle.std.proofs.Props.{props}
 use Rattle.sensitivity.specs.declared.needed.Needed.{Needed}
 use Rattle.sensitivity.specs.declared.needed.Needed.TheVariants.{Worth, Never}
@@ -27,9 +26,13 @@ BestOf good ps ds = (good ps ds ≡ true) × ((es : Plan) → good ps es ≡ tru
 abbrev pub SomeBestFollows : (best : List Pass → Plan → Type 0) → List Pass → ℕ → Type 0
 SomeBestFollows best ps i = (ds : Plan) × best ps ds × (follows ds i ≡ true)
 
+-- some best plan doesn't follow pass i, where it is given which plans of a list are best
+abbrev pub SomeBestLeavesOf : (best : List Pass → Plan → Type 0) → List Pass → ℕ → Type 0
+SomeBestLeavesOf best ps i = (ds : Plan) × best ps ds × (follows ds i ≡ false)
+
 -- some best plan of a station's night doesn't follow pass i
 abbrev pub SomeBestLeaves : Station → List Pass → ℕ → Type 0
-SomeBestLeaves s ps i = (ds : Plan) × Best s ps ds × (follows ds i ≡ false)
+SomeBestLeaves s ps i = SomeBestLeavesOf (Best s) ps i
 
 -- v is the needed worth of pass i: with it or any higher worth some best plan follows the pass, and with no lower one does any
 pub record NeededWorth (best : List Pass → Plan → Type 0) (ps : List Pass) (i v : ℕ) : Type 0 where
@@ -68,10 +71,10 @@ BestWith s ps i ds = BestAsked (fits s) true ps i ds
 abbrev pub BestWithout : Station → List Pass → ℕ → Plan → Type 0
 BestWithout s ps i ds = BestAsked (fits s) false ps i ds
 
--- any two proofs that a plan is a best one, worth so much, are the same
-pub BestPlanWorth-prop : (s : Station) (ps : List Pass) (ds : Plan) (w : ℕ) → IsProp (BestPlanWorth s ps ds w)
-unfolding Best
-BestPlanWorth-prop s ps ds w a b =
-    let best : IsProp ((fits s ps ds ≡ true) × ((es : Plan) → fits s ps es ≡ true → worth_of ps es ≤ worth_of ps ds)) = Prim.hlevel props in
+-- any two proofs that a plan is a best one by a rule, worth so much, are the same
+pub BestBy-prop : (good : List Pass → Plan → Bool) (ps : List Pass) (ds : Plan) (w : ℕ) → IsProp (BestBy good ps ds w)
+BestBy-prop good ps ds w a b =
+    let is_good : IsProp (good ps ds ≡ true) = Prim.hlevel props in
     let worth : IsProp (w ≡ worth_of ps ds) = Prim.hlevel props in
-    λ t. record { best = best a.best b.best t; worth = worth a.worth b.worth t }
+    let most : IsProp ((es : Plan) → good ps es ≡ true → worth_of ps es ≤ w) = Prim.hlevel props in
+    λ t. record { is_good = is_good a.is_good b.is_good t; worth = worth a.worth b.worth t; most = most a.most b.most t }

@@ -1,5 +1,5 @@
 -- Statements about the definitions. Each is proved: a function of src/laws.rt has it as its contract. Assumes nothing.
-use Rattle.std.specs.Prelude.{◌≡◌, ℕ, ◌+◌, ◌-◌, ◌<◌, ◌≤◌, List, length, true}
+use Rattle.std.specs.Prelude.{◌≡◌, ℕ, ◌+◌, ◌-◌, ◌<◌, ◌≤◌, Bool, List, length, true}
 use Rattle.passes.specs.declared.model.Pass.{Pass}
 use Rattle.passes.specs.declared.model.Station.{Station}
 use Rattle.passes.specs.Checks.{checked}
@@ -7,7 +7,7 @@ use Rattle.passes.specs.Plans.{Plan, fits, worth_of, Best}
 use Rattle.passes.specs.Rule.{nth}
 use Rattle.sensitivity.specs.declared.needed.Needed.{Needed}
 use Rattle.sensitivity.specs.declared.needed.Needed.TheVariants.{Never}
-use Rattle.sensitivity.specs.Needing.{with_worth, SomeBestFollows, Told, NeededWorth, NoneFollows, BestWith, BestWithout, NoneMay, SomeBestLeaves}
+use Rattle.sensitivity.specs.Needing.{with_worth, SomeBestFollows, Told, NeededWorth, NoneFollows, BestWith, BestWithout, NoneMay, SomeBestLeaves, TrueOf, BestOf}
 
 -- the needed worth of a pass is the least with which some best plan follows it, so a pass has no two
 abbrev pub OnlyOne : Type 0
@@ -57,3 +57,10 @@ Difference =
 -- a needed worth of a list that passes the checks is at most 48,000,000, and so below the number for never
 abbrev pub BelowNever : Type 0
 BelowNever = (s : Station) (ps : List Pass) (i v : ℕ) → checked s ps ≡ true → i < length ps → NeededWorth (Best s) ps i v → v ≤ 48000000
+
+-- where two notions of good plans agree on a list, whatever its pass i is worth, what is true of the pass by the one is true by the other
+abbrev pub ToldAlike : Type 0
+ToldAlike =
+    (good good₁ : List Pass → Plan → Bool) (ps : List Pass) (i : ℕ) →
+    ((v : ℕ) (ds : Plan) → good (with_worth ps i v) ds ≡ good₁ (with_worth ps i v) ds) →
+    (n : Needed) → TrueOf good (BestOf good) ps i n → TrueOf good₁ (BestOf good₁) ps i n

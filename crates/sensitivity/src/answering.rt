@@ -8,7 +8,7 @@ ghost use Rattle.sensitivity.specs.Answers.{WhySays, refused_with_rooms, EachTol
 
 use crate::inquiries::Inquiry;
 use passes::{MAX_PASSES, Night, Refusal};
-use planner::{Counted, Done};
+use planner::{Counted, Done, PLACES};
 
 // Leaves a best plan in the room, and of each pass in the second room the number of what it would have to be worth at least for a best plan to follow
 // it; and answers the plan's worth. Or answers the number of the first refusal that applies and leaves both rooms as they were.
@@ -51,10 +51,11 @@ fn tell_each(night: &Night, room: &mut [u8], needed: &mut [u32]) -> Counted
     let inquiry = Inquiry::new(night);
     // Kept: an array, of which the front is used, since there is no heap.
     let mut with = [0; MAX_PASSES];
+    let mut seen = [None; PLACES];
     let mut visited = 0u64;
     // Kept: the place is what is asked about.
     for place in 0..needed.len() {
-        let found = inquiry.find(place, &mut with[..room.len()]);
+        let found = inquiry.find(place, &mut seen, &mut with[..room.len()]);
         needed[place] = found.needed.number();
         visited = visited.saturating_add(found.visited);
     }

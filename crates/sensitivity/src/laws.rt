@@ -1,6 +1,6 @@
 // Theorems about the definitions, each on the contract of a function.
 // Kept: these functions differ in their contracts alone, and what a contract states can't be a parameter.
-ghost use Rattle.sensitivity.specs.Statements.{OnlyOne, AsWell, Lowered, NoDish, NeverExactly, LeavesAsWell, Difference, BelowNever};
+ghost use Rattle.sensitivity.specs.Statements.{OnlyOne, AsWell, Lowered, NoDish, NeverExactly, LeavesAsWell, Difference, BelowNever, ToldAlike};
 ghost use Rattle.sensitivity.specs.PassRules.{PassRuleMeans};
 
 // A pass has one needed worth.
@@ -62,6 +62,13 @@ pub fn below_never_stands() -> u8
 // The rule on one pass accepts, where the pass is there, the plans that do with it as is asked, and no others.
 pub fn pass_rule_stands() -> u8
     ensures { PassRuleMeans }
+{
+    0
+}
+
+// What is said of a pass rests on which plans are good, whatever the pass is worth, and on nothing else.
+pub fn told_alike_stands() -> u8
+    ensures { ToldAlike }
 {
     0
 }

@@ -58,16 +58,48 @@ fn one_pass(rt: HostRuntime) -> Result<(), Fail> {
     let night = Night::read(2, 3, FIVE.as_flattened()).map_err(|_| "not read")?;
     let inquiry = Inquiry::new(&night);
     assert_eq!(rt; inquiry.worth(), 25);
+    let seen = &mut [None; 16];
     let mut room = [9; 5];
     // with the third pass, worth 6, the night is worth 22
-    assert_eq!(rt; inquiry.ask(2, &mut room), Ok(Needed::Worth(9)));
+    assert_eq!(rt; inquiry.ask(2, seen, &mut room), Ok(Needed::Worth(9)));
     assert_eq!(rt; night.judge(&room), Ok(Ok(22)));
     // of one that is followed the plan itself is left
-    assert_eq!(rt; inquiry.ask(1, &mut room), Ok(Needed::Worth(2)));
+    assert_eq!(rt; inquiry.ask(1, seen, &mut room), Ok(Needed::Worth(2)));
     assert_eq!(rt; room.as_slice(), inquiry.plan());
-    assert_eq!(rt; inquiry.ask(5, &mut room), Err(Refusal::BadPass(5)));
-    assert_eq!(rt; inquiry.ask(0, &mut room[..4]), Err(Refusal::BadRoom(4)));
+    assert_eq!(rt; inquiry.ask(5, seen, &mut room), Err(Refusal::BadPass(5)));
+    assert_eq!(rt;
+        inquiry.ask(0, seen, &mut room[..4]),
+        Err(Refusal::BadRoom(4))
+    );
     assert_eq!(rt; room.as_slice(), inquiry.plan());
+    Ok(())
+}
+
+// What passes need where the last one may not be followed, whatever it is worth.
+#[test]
+fn by_a_rule(rt: HostRuntime) -> Result<(), Fail> {
+    let night = Night::read(2, 3, FIVE.as_flattened()).map_err(|_| "not read")?;
+    let inquiry = Inquiry::by(&night, PassRule::Forbidden(4), &mut [None; 16]).ok_or("no plan")?;
+    assert_eq!(rt; inquiry.worth(), 18);
+    let mut room = [9; 5];
+    for (place, worth) in [2, 6, 9, 1].into_iter().enumerate() {
+        let needed = inquiry.ask(place, &mut [None; 16], &mut room);
+        assert_eq!(rt; needed, Ok(Needed::Worth(worth)));
+    }
+    let needed = inquiry.ask(4, &mut [None; 16], &mut room);
+    assert_eq!(rt; needed, Ok(Needed::Never));
+    Ok(())
+}
+
+// By two rules that no plan meets there is nothing to ask about.
+#[test]
+fn no_plan(rt: HostRuntime) -> Result<(), Fail> {
+    let night = Night::read(2, 3, FIVE.as_flattened()).map_err(|_| "not read")?;
+    let rule = Together {
+        one: PassRule::Forced(0),
+        other: PassRule::Forbidden(0),
+    };
+    assert!(rt; Inquiry::by(&night, rule, &mut [None; 16]).is_none());
     Ok(())
 }
 

@@ -10,6 +10,7 @@ use Rattle.sensitivity.specs.declared.needed.Needed.TheVariants.{Worth, Never}
 use Rattle.sensitivity.specs.Answers.{needed_number, EachTold}
 use Rattle.sensitivity.specs.Needing.{Told, NoneFollows}
 use Rattle.sensitivity.proofs.Bounds.{not_never}
+use Rattle.sensitivity.proofs.OnePass.{best_of_all, told_by_anything}
 use Rattle.sensitivity.proofs.Stations.{never_exactly}
 use Rattle.sensitivity.proofs.answering.tell_each.Goals as goal
 
@@ -28,7 +29,7 @@ pub loop-place-preserved : goal.loop-place-preserved
 loop-place-preserved c =
     let n = c.args.night.now in
     let within : c.loop-place.place < length c.loop-place.needed = omega (arith, c.loop-place-test.true) in
-    let told = rw c.new-inquiry.ensures at c.find-found.ensures.told in
+    let told = told_by_anything n.station (passes_of n) c.loop-place.place c.find-found.result.needed (rw c.new-inquiry.ensures at c.find-found.ensures.told) in
     (length-set c.loop-place.needed c.loop-place.place _ ∙ c.loop-place.invariant.0, rw c.number.ensures (says_more n.station (passes_of n) c.loop-place.needed c.loop-place.place c.find-found.result.needed within told c.loop-place.invariant.1))
 
 -- what is true of each pass, as numbers
@@ -43,6 +44,11 @@ each_told s ps xs ok long says = record {
     only : (i : ℕ) → i < length ps → (n : Needed) → Told s ps i n → needed_number n ≡ 4294967295 → NoneFollows (fits s) ps i
     only i l Never told same = told
     only i l (Worth v) told same = absurd (not_never s ps i v ok l told same)
+
+pub returns-clause-planned : goal.returns-clause-planned
+returns-clause-planned c =
+    let n = c.args.night.now in
+    best_of_all n.station (passes_of n) _ _ (rw (c.copy_from_slice.ensures.after, c.worth.ensures, ← c.new-inquiry.ensures) c.plan.ensures.best)
 
 pub returns-clause-told : goal.returns-clause-told
 returns-clause-told c =

@@ -10,7 +10,7 @@ use Rattle.sensitivity.proofs.asking.RuledPlan.needed.Goals as goal
 pub bounds-self-place : goal.bounds-self-place
 bounds-self-place g c =
     let n = c.args.self.now.night.now in
-    omega (arith, long_by n.station (g.R.Rule.automaton c.args.self.now.rule) (passes_of n) c.args.self.now.plan.now c.requires.best.0, c.requires.within)
+    omega (arith, long_by n.station (g.R.Rule.automaton c.args.self.now.rule) (passes_of n) c.args.self.now.plan.now c.requires.best.is_good, c.requires.within)
 
 pub returns : goal.returns
 returns g c =
@@ -18,5 +18,5 @@ returns g c =
     let deaf = rw c.if-is_heard.false at c.is_heard.ensures in
     record {
       told = λ v ds good. (no_dish n.station (passes_of n) c.args.place c.requires.within).1 deaf v ds (and_parts (fits n.station (with_worth (passes_of n) c.args.place v) ds) _ good).0;
-      left = refl;
+      left = refl {a = c.args.room.now};
     }
