@@ -1,0 +1,12 @@
+pub mod Taking
+pub mod Legs
+pub mod Granting
+pub mod Meaning
+pub mod Planned
+pub mod Seconds
+pub mod Next
+pub mod Without
+pub mod Alike
+pub mod Differs
+pub mod Each
+pub mod Directed
