@@ -13,18 +13,19 @@ use rand::SeedableRng;
 use rand::rngs::SmallRng;
 use std::{fs, io};
 
-// With this seed each of the numbers 1, 2 and 4 comes up.
+// With this seed each of the numbers 1, 2, 4 and 5 comes up.
 const SEED: u64 = 2;
 
 // How many damaged texts are made of each example.
 const TEXTS: u32 = 2000;
 
-const EXAMPLES: [&str; 5] = [
+const EXAMPLES: [&str; 6] = [
     "five.txt",
     "nine-against-two-eights.txt",
     "heard-by-two.txt",
     "busy.txt",
     "turned-away.txt",
+    "directions.txt",
 ];
 
 // The text of an example, from the folder in which the program is run, or from the folder `data` there.

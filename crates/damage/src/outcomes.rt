@@ -59,8 +59,8 @@ pub struct Score {
     texts: usize,
     good: usize,
     wrong: usize,
-    // With each number from 1 to 4.
-    numbers: [usize; 4],
+    // With each number from 1 to 5.
+    numbers: [usize; 5],
 }
 
 impl Score {
@@ -69,7 +69,7 @@ impl Score {
         ensures texts { result.texts ≡ length outcomes.now }
         ensures good { result.good ≡ count_by is_good outcomes.now }
         ensures wrong { result.wrong ≡ count_by is_wrong outcomes.now }
-        ensures numbers { result.numbers ≡ map (λ n. count_by (has_number n) outcomes.now) (1 ∷ (2 ∷ (3 ∷ (4 ∷ [])))) }
+        ensures numbers { result.numbers ≡ map (λ n. count_by (has_number n) outcomes.now) (1 ∷ (2 ∷ (3 ∷ (4 ∷ (5 ∷ []))))) }
     {
         Score {
             texts: outcomes.len(),
@@ -80,6 +80,7 @@ impl Score {
                 with_number(outcomes, 2),
                 with_number(outcomes, 3),
                 with_number(outcomes, 4),
+                with_number(outcomes, 5),
             ],
         }
     }
@@ -117,10 +118,10 @@ fn with_number(outcomes: &[Outcome], number: u64) -> usize
 
 impl fmt::Display for Score {
     fn fmt<W: fmt::Write>(&self, f: &mut fmt::Formatter<W>) -> fmt::Result {
-        let [one, two, three, four] = self.numbers;
+        let [one, two, three, four, five] = self.numbers;
         write!(
             f,
-            "{} texts, {} planned well, {} wrongly, {one} turned away with number 1, {two} with 2, {three} with 3, {four} with 4",
+            "{} texts, {} planned well, {} wrongly, {one} turned away with number 1, {two} with 2, {three} with 3, {four} with 4, {five} with 5",
             self.texts, self.good, self.wrong
         )
     }

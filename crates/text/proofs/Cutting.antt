@@ -6,7 +6,7 @@ use Rattle.std.proofs.lemmas.Bool.Decides.{nat_tests}
 use Rattle.std.proofs.lemmas.List.Elements.{All-nil, All-cons, All-append, All-from_recursion}
 use Rattle.std.proofs.lemmas.List.Splits.{slice_split_none, slice_split_at}
 use Rattle.text.specs.Words.{ends_line, is_blank, lines_of, words_of}
-use Rattle.text.specs.Writing.{spaced, line}
+use Rattle.text.specs.Writing.{behind, spaced, line}
 
 -- a byte that ends no line
 abbrev in_line : ℕ → Type 0
@@ -31,6 +31,11 @@ is_word w = leb 1 (length w) && all_plain w
 unfoldable pub all_words : List (List ℕ) → Bool
 all_words [] = true
 all_words (w ∷ ws) = is_word w && all_words ws
+
+pub all_words-append : (ws vs : List (List ℕ)) → all_words ws ≡ true → all_words vs ≡ true → all_words (ws ++ vs) ≡ true
+unfolding all_words
+all_words-append [] vs h k = k
+all_words-append (w ∷ ws) vs h k = rw (all_words-append ws vs (grind (arith, nat_tests)) k) (grind (arith, nat_tests))
 
 -- a test that fails at each plain byte fails at all of these
 untouched : (test : ℕ → Bool) → ((b : ℕ) → plain b ≡ true → test b ≡ false) → (w : List ℕ) → all_plain w ≡ true → All (λ b. test b ≡ false) w
@@ -65,10 +70,6 @@ words : (ws : List (List ℕ)) → all_words ws ≡ true → Words ws
 unfolding all_words
 words [] h = tt
 words (w ∷ ws) h = (word w (grind (arith, nat_tests)), words ws (grind (arith, nat_tests)))
-
--- the words behind a first one
-abbrev pub behind : List (List ℕ) → List ℕ
-behind ws = flat_map (λ v. codes " " ++ v) ws
 
 cut : (w : List ℕ) (ws : List (List ℕ)) → IsWord w → Words ws → slice_split is_blank (w ++ behind ws) ≡ w ∷ ws
 unfolding is_blank

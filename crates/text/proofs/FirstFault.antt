@@ -1,7 +1,6 @@
 -- The line that is named is the first that can't be read. Assumes nothing.
 use Rattle.std.proofs.Common.{◌≡◌, ℕ, zero, suc, ◌+◌, ◌<◌, ◌⊎◌, inl, inr, List, [], ◌∷◌, length, take, get_or, Some, None, Option, Ok, Err, Result, refl, sym, ap, subst, ◌∙◌, arith}
-use Rattle.passes.specs.declared.refusals.Refusal.{Refusal}
-use Rattle.passes.specs.Refusals.{refused}
+use Rattle.slewing.specs.declared.refusals.SlewRefusal.{SlewRefusal}
 use Rattle.text.specs.declared.draft.StationLine.{StationLine}
 use Rattle.text.specs.declared.faults.BadLine.{BadLine}
 use Rattle.text.specs.declared.faults.LineFault.{LineFault}
@@ -9,7 +8,7 @@ use Rattle.text.specs.declared.faults.LineFault.TheVariants.{NoStation}
 use Rattle.text.specs.declared.faults.TurnedAway.{TurnedAway}
 use Rattle.text.specs.declared.faults.TurnedAway.TheVariants.{Unreadable}
 use Rattle.text.specs.Drafts.{Draft, Entry, empty, at_line, with_line, with_lines, draft_of}
-use Rattle.text.specs.Reading.{numbers_of, last_line, taken_with, taken, read_text}
+use Rattle.text.specs.Reading.{refused_in, last_line, taken_with, taken, read_text}
 use Rattle.text.specs.Statements.{StopsAt, HasNoStation, FirstAtFault, UnreadableFirst}
 use Rattle.text.specs.Words.{lines_of}
 
@@ -73,9 +72,9 @@ stops i d (l ∷ ls) bad e = by_line (with_line i d l) refl (λ next. stops (i +
 -- what is refused for what its lines say is not unreadable
 not_unreadable : (s : StationLine) (es : List Entry) (bad : BadLine) → taken_with s es ≡ Err (Unreadable bad) → ⊥
 unfolding taken_with
-not_unreadable s es bad e = by_refusal (refused s.dishes s.turn (numbers_of es)) refl
+not_unreadable s es bad e = by_refusal (refused_in s es) refl
   where
-    by_refusal : (o : Option Refusal) → refused s.dishes s.turn (numbers_of es) ≡ o → ⊥
+    by_refusal : (o : Option SlewRefusal) → refused_in s es ≡ o → ⊥
     by_refusal None is = let f = rw is at e in absurd cc
     by_refusal (Some why) is = let f = rw is at e in absurd cc
 

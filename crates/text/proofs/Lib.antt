@@ -14,6 +14,12 @@ pub mod RoundTrip
 pub mod Spelled
 pub mod PlainWords
 pub mod ShortLines
+pub mod InFront
+pub mod Around
+pub mod Twos
+pub mod Fitting
+pub mod Directed
+pub mod Written
 pub mod FirstFault
 pub mod Refusing
 pub mod Rules

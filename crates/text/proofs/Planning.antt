@@ -1,12 +1,11 @@
--- A room with a number for each pass is not refused. Assumes nothing.
-use Rattle.std.proofs.Common.{◌≡◌, ℕ, Ok, Err, Result, arith, rules}
-use Rattle.std.specs.Result.{result_err, IsOk}
-use Rattle.std.proofs.lemmas.Bool.Decides.{nat_tests}
-use Rattle.passes.specs.declared.refusals.Refusal.{Refusal}
-use Rattle.passes.specs.Refusals.{room_refused}
+-- Planning a night by its directions, if it has any. Assumes nothing.
+use Rattle.std.proofs.Common.{◌≡◌, true}
+use Rattle.passes.specs.Nights.{passes_of}
+use Rattle.passes.specs.Plans.{Plan, fits}
+use Rattle.slewing.proofs.Directed.{good_without}
+use Rattle.text.specs.declared.nights.NamedNight.{NamedNight}
+use Rattle.text.specs.Lists.{good_of}
 
--- a room with a number for each of n passes is not refused
-pub not_refused : (n room : ℕ) (r : Result ℕ Refusal) → room ≡ n → result_err r ≡ room_refused n room → IsOk r
-unfolding room_refused
-not_refused n room (Ok w) same told = search rules
-not_refused n room (Err why) same told = grind (arith, nat_tests)
+-- a plan that is good by a night's directions is good
+pub good_fits : (n : NamedNight) (ds : Plan) → good_of n (passes_of n.night) ds ≡ true → fits n.night.station (passes_of n.night) ds ≡ true
+good_fits n ds good = good_without n.night n.slewing ds n.directed good

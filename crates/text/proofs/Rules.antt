@@ -1,21 +1,37 @@
 -- The rule that is named is one that the pass breaks. Assumes nothing.
-use Rattle.std.proofs.Common.{◌≡◌, ℕ, zero, suc, ◌+◌, ◌-◌, ◌*◌, ◌<◌, ◌≤◌, Bool, true, false, cond, leb, ltb, List, [], ◌∷◌, length, Some, None, Option, refl, sym, ap, subst, ◌∙◌, arith}
-use Rattle.std.specs.Prelude.{option_map, slice_index}
+use Rattle.std.proofs.Common.{◌≡◌, ℕ, zero, suc, ◌+◌, ◌-◌, ◌*◌, ◌<◌, ◌≤◌, Bool, true, false, cond, leb, ltb, List, [], ◌∷◌, length, Some, None, Option, Ok, Err, inl, inr, ⊎_elim, refl, sym, ap, subst, ◌∙◌, arith}
+use Rattle.std.specs.Prelude.{is_some, option_map, slice_index}
+use Rattle.std.proofs.lemmas.Bool.{cases_lt}
 use Rattle.std.proofs.lemmas.Bool.Decides.{nat_tests}
+use Rattle.std.proofs.lemmas.List.{length-map}
 use Rattle.std.proofs.lemmas.Option.{MatchOption-at_some}
 use Rattle.passes.specs.declared.refusals.Refusal.TheVariants.{BadDishes, BadTurning, BadPass}
 use Rattle.passes.specs.Checks.{dishes_ok, turning_ok, in_range}
 use Rattle.passes.specs.Numbers.{begun, in_order, sound, first_fault}
 use Rattle.passes.specs.Refusals.{or_else, station_refused, list_refused, refused}
 use Rattle.passes.proofs.Taking.{place_is_first}
+use Rattle.slewing.specs.declared.refusals.SlewRefusal.TheVariants.{Plain, BadDirections}
+use Rattle.slewing.specs.Numbers.{is_around}
+use Rattle.slewing.specs.Refusals.{slewing_refused}
+use Rattle.text.specs.declared.faults.ListRule.{ListRule}
 use Rattle.text.specs.declared.faults.ListRule.TheVariants.{Count, Span, End, Worth, Marks, Order}
+use Rattle.text.specs.declared.faults.TurnedAway.TheVariants.{Refused}
+use Rattle.text.specs.declared.line.Ends.{Ends}
 use Rattle.text.specs.declared.line.Numbers.{Numbers}
-use Rattle.text.specs.Drafts.{Entry}
+use Rattle.text.specs.Drafts.{Draft, Entry, draft_of}
 use Rattle.text.specs.Blame.{rule_of_pass, numbers_at, rule_about}
-use Rattle.text.specs.Reading.{numbers_of}
-use Rattle.text.specs.Statements.{Breaks, RuleIsBroken}
-use Rattle.text.proofs.Refusing.{refused_for_what_it_says}
+use Rattle.text.specs.Reading.{numbers_of, ends_in, directions_of, read_text}
+use Rattle.text.specs.Statements.{RefusedFor, Beyond, Breaks, EachDirected, RuleIsBroken}
+use Rattle.text.proofs.Around.{not_around}
+use Rattle.text.proofs.FirstFault.{turned}
+use Rattle.text.proofs.Fitting.{each_directed}
+use Rattle.text.proofs.Refusing.{refused_for_what_it_says, refused_plainly, refused_for_directions}
 use Rattle.text.proofs.TakingLists.{fours}
+use Rattle.text.proofs.Twos.{twos, stands_at}
+
+-- pass i of what a text says breaks a rule
+abbrev Broken : List ℕ → ℕ → ListRule → Type 0
+Broken text i rule = (d : Draft) × (draft_of text ≡ Ok d) × (i < length d.entries) × Breaks d.entries i rule
 
 -- the refusal that is for a pass is for the first at fault
 pass_of : (a b : Bool) (o : Option ℕ) (i : ℕ) → or_else (cond a (cond b None (Some BadTurning)) (Some BadDishes)) (option_map BadPass o) ≡ Some (BadPass i) → o ≡ Some i
@@ -83,14 +99,49 @@ module _ (es : List Entry) (i : ℕ) (within : i < length es) (bad : sound (numb
   by_place false far = grind (arith, nat_tests, far)
   by_place true few = by_numbers (grind (arith, nat_tests, few)) _ _ _ _ refl refl refl refl
 
-  broken : Breaks es i (rule_about es (BadPass i))
+  broken : Breaks es i (rule_about es (Plain (BadPass i)))
   unfolding rule_about
   broken = by_place (ltb i 48) refl
 
-pub rule_is_broken : RuleIsBroken
-rule_is_broken text i line rule e =
-    let found = refused_for_what_it_says text (BadPass i) line rule e in
+-- a pass that is refused without directions
+plain_broken : (text : List ℕ) (i line : ℕ) (rule : ListRule) → read_text text ≡ Err (Refused (Plain (BadPass i)) line rule) → Broken text i rule
+plain_broken text i line rule e =
+    let found = refused_for_what_it_says text (Plain (BadPass i)) line rule e in
     let es = found.all.entries in
-    let fault = unsound (numbers_of es) i (fault_of_pass found.station.dishes found.station.turn i (numbers_of es) found.applies) in
+    let plainly = refused_plainly found.station es (BadPass i) found.applies in
+    let fault = unsound (numbers_of es) i (fault_of_pass found.station.dishes found.station.turn i (numbers_of es) plainly) in
     let within : i < length es = omega (arith, fault.0, fours es) in
     (found.all, found.read, within, subst (Breaks es i) (sym found.about) (broken es i within fault.1))
+
+-- numbers that aren't both directions
+beyond : (v : Ends) → is_around (record { begin = v.begin; end = v.end }) ≡ false → Beyond (Some v)
+unfolding is_around
+beyond v h = ⊎_elim (λ (low : v.begin < 64). inr (grind (arith, nat_tests))) (λ high. inl high) (cases_lt v.begin 64)
+
+-- where the station has a step, a pass whose directions are refused has some, and they are beyond
+directions_broken : (d : Draft) (k i : ℕ) → EachDirected true d → slewing_refused (length d.entries) k (directions_of d.entries) ≡ Some (BadDirections i)
+    → (i < length d.entries) × Breaks d.entries i (rule_about d.entries (BadDirections i))
+unfolding rule_about
+directions_broken d k i each e =
+    let vs = ends_in d.entries in
+    let long : length vs ≡ length d.entries = length-map d.entries (λ e. e.pass.directions) in
+    let found = not_around (length d.entries) (directions_of d.entries) (twos vs each ∙ ap (λ n. 2 * n) long) k i e in
+    let here = stands_at vs i each (omega (arith, found.0, long)) in
+    (found.0, subst Beyond (sym here.are) (beyond here.ends (rw (here.begin, here.end) at found.1)))
+
+directed_broken : (text : List ℕ) (i line : ℕ) (rule : ListRule) → read_text text ≡ Err (Refused (BadDirections i) line rule) → Broken text i rule
+directed_broken text i line rule e =
+    let found = refused_for_what_it_says text (BadDirections i) line rule e in
+    by_step found found.station.step refl
+  where
+    by_step : (found : RefusedFor text (BadDirections i) line rule) (k : Option ℕ) → found.station.step ≡ k → Broken text i rule
+    by_step found None is = let f = rw is at (refused_for_directions found.station found.all.entries i found.applies) in absurd cc
+    by_step found (Some k) is =
+        let f = rw is at (refused_for_directions found.station found.all.entries i found.applies) in
+        let each = subst (λ b. EachDirected b found.all) (ap is_some is) (each_directed text found.all found.station found.read found.says) in
+        let here = directions_broken found.all k i each f in
+        (found.all, found.read, here.0, subst (Breaks found.all.entries i) (sym found.about) here.1)
+
+pub rule_is_broken : RuleIsBroken
+rule_is_broken text why i line rule (inl plain) e = plain_broken text i line rule (e ∙ ap (λ w. turned (Refused w line rule)) plain)
+rule_is_broken text why i line rule (inr directed) e = directed_broken text i line rule (e ∙ ap (λ w. turned (Refused w line rule)) directed)

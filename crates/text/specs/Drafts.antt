@@ -1,10 +1,11 @@
 -- A list as far as it is read, line by line. Assumes nothing: these are definitions.
-use Rattle.std.specs.Prelude.{ℕ, ◌+◌, List, [], ◌∷◌, ◌++◌, length, nat_lt, is_some, is_none, Some, None, Option, Ok, Err, Result, if◌then◌else◌}
+use Rattle.std.specs.Prelude.{ℕ, ◌+◌, ◌&&◌, List, [], ◌∷◌, ◌++◌, length, nat_lt, is_some, is_none, Some, None, Option, Ok, Err, Result, if◌then◌else◌}
 use Rattle.text.specs.declared.draft.StationLine.{StationLine}
 use Rattle.text.specs.declared.faults.LineFault.{LineFault}
-use Rattle.text.specs.declared.faults.LineFault.TheVariants.{TooLong, SecondStation, NoStation}
+use Rattle.text.specs.declared.faults.LineFault.TheVariants.{TooLong, SecondStation, NoStation, NoDirections, NoStep}
 use Rattle.text.specs.declared.faults.TurnedAway.{TurnedAway}
 use Rattle.text.specs.declared.faults.TurnedAway.TheVariants.{Unreadable}
+use Rattle.text.specs.declared.line.Ends.{Ends}
 use Rattle.text.specs.Lines.{◌>>=◌, NamedPass, Said, said_by}
 use Rattle.text.specs.Lines.Said.{nothing, station, pass}
 use Rattle.text.specs.Words.{lines_of, words_of}
@@ -27,13 +28,26 @@ pub record Draft : Type 0 where
 abbrev pub empty : Draft
 empty = record { station = None; entries = [] }
 
--- a draft once line i has said something too: a station is said once, and before all passes
+-- what is wrong with a pass with these directions, or without any, behind this station: it has to come after a station,
+-- and to have directions where the station has a step, and else none
+unfoldable pub misfit : Option StationLine → Option Ends → Option LineFault
+misfit None v = Some NoStation
+misfit (Some s) v =
+    if is_some s.step && is_none v then Some NoDirections
+    else if is_none s.step && is_some v then Some NoStep
+    else None
+
+-- a draft once line i has said something too: a station is said once, and before all passes, which fit it
 unfoldable pub with_said : ℕ → Draft → Said → Result Draft LineFault
 with_said i d nothing = Ok d
-with_said i d (station dishes turn) =
-    if is_some d.station then Err SecondStation else Ok (record { station = Some (record { dishes = dishes; turn = turn; line = i }); entries = d.entries })
-with_said i d (pass p) =
-    if is_none d.station then Err NoStation else Ok (record { station = d.station; entries = d.entries ++ (record { pass = p; line = i } ∷ []) })
+with_said i d (station dishes turn step) =
+    if is_some d.station then Err SecondStation
+    else Ok (record { station = Some (record { dishes = dishes; turn = turn; step = step; line = i }); entries = d.entries })
+with_said i d (pass p) = unless (misfit d.station p.directions)
+  where
+    unless : Option LineFault → Result Draft LineFault
+    unless None = Ok (record { station = d.station; entries = d.entries ++ (record { pass = p; line = i } ∷ []) })
+    unless (Some fault) = Err fault
 
 -- a draft once line i is read too, or what is wrong with that line
 unfoldable pub with_line : ℕ → Draft → List ℕ → Result Draft LineFault

@@ -11,5 +11,6 @@ pub mod Results
 pub mod Views
 pub mod Blame
 pub mod Reading
+pub mod Taking
 pub mod Messages
 pub mod Statements

@@ -2,9 +2,9 @@
 use Rattle.std.specs.Prelude.{ℕ, ◌+◌, ◌&&◌, List, [], ◌++◌, map, take, codes, nat_le, slice_index_or, if◌then◌else◌}
 use Rattle.std.specs.Fmt.{decimal}
 use Rattle.text.specs.declared.faults.LineFault.{LineFault}
-use Rattle.text.specs.declared.faults.LineFault.TheVariants.{TooLong, UnknownWord, NotStation, NotPass, BadName, BadNumber, BadDish, DishTwice, SecondStation, NoStation}
+use Rattle.text.specs.declared.faults.LineFault.TheVariants.{TooLong, UnknownWord, NotStation, NotPass, BadName, BadNumber, BadDish, DishTwice, SecondStation, NoStation, NoDirections, NoStep}
 use Rattle.text.specs.declared.faults.ListRule.{ListRule}
-use Rattle.text.specs.declared.faults.ListRule.TheVariants.{Dishes, Turning, Count, Span, End, Worth, Marks, Order}
+use Rattle.text.specs.declared.faults.ListRule.TheVariants.{Dishes, Turning, Count, Span, End, Worth, Marks, Order, Step, Directions}
 use Rattle.text.specs.declared.faults.ReadError.{ReadError}
 use Rattle.text.specs.declared.faults.ReadError.TheVariants.{Memory, TurnedAway as Away}
 use Rattle.text.specs.declared.faults.TurnedAway.{TurnedAway}
@@ -16,14 +16,16 @@ use Rattle.text.specs.Words.{is_blank, lines_of}
 unfoldable pub line_rule : LineFault → List ℕ
 line_rule TooLong = codes "a line has at most 1000 bytes"
 line_rule UnknownWord = codes "a line begins with dishes, pass or #"
-line_rule NotStation = codes "a station is written as: dishes 2 turn 3"
-line_rule NotPass = codes "a pass is written as: pass hermes 0 10 worth 5 dishes 0 1"
+line_rule NotStation = codes "a station is written as: dishes 2 turn 3, or with a step: dishes 2 turn 3 step 4"
+line_rule NotPass = codes "a pass is written as: pass hermes 0 10 worth 5 dishes 0 1, or with directions behind: directions 12 40"
 line_rule BadName = codes "a name is 1 to 32 letters, digits, - _ or ."
 line_rule BadNumber = codes "a number is digits and below 4294967296"
 line_rule BadDish = codes "a dish is a number below 32"
 line_rule DishTwice = codes "a dish is named twice"
 line_rule SecondStation = codes "a list has one station, and this is a second"
 line_rule NoStation = codes "the station comes first, as: dishes 2 turn 3"
+line_rule NoDirections = codes "the station has a step, so a pass has directions, as: pass hermes 0 10 worth 5 dishes 0 1 directions 12 40"
+line_rule NoStep = codes "a pass has directions only where the station has a step, as: dishes 2 turn 3 step 4"
 
 -- what is told of a list whose lines can be read: the rule that it breaks
 unfoldable pub list_rule : ListRule → List ℕ
@@ -35,6 +37,8 @@ list_rule End = codes "a pass ends by second 1000000"
 list_rule Worth = codes "a pass is worth at most 1000000"
 list_rule Marks = codes "dishes are 0 to 3"
 list_rule Order = codes "a pass begins no sooner than the one before it"
+list_rule Step = codes "dishes take at most 1000000 seconds for a step"
+list_rule Directions = codes "directions are 0 to 63"
 
 -- what is told of a text that is turned away: how its line would be right, or the rule that its list breaks
 abbrev pub rule_of : TurnedAway → List ℕ

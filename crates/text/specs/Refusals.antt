@@ -1,6 +1,6 @@
 -- The numbers, places and lines of what is turned away. Assumes nothing: these are definitions.
 use Rattle.std.specs.Prelude.{ℕ}
-use Rattle.passes.specs.Refusals as lists
+use Rattle.slewing.specs.Refusals as lists
 use Rattle.text.specs.declared.faults.TurnedAway.{TurnedAway}
 use Rattle.text.specs.declared.faults.TurnedAway.TheVariants.{Unreadable, Refused}
 

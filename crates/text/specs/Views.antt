@@ -11,12 +11,12 @@ use Rattle.text.specs.Lines.Said.{nothing, station, pass}
 -- what a line says, without where its bytes lie
 abbrev pub said_of : Line → Said
 said_of Nothing = nothing
-said_of (Station dishes turn) = station dishes turn
-said_of (Pass p) = pass (record { name = p.name.now; numbers = p.numbers })
+said_of (Station dishes turn step) = station dishes turn step
+said_of (Pass p) = pass (record { name = p.name.now; numbers = p.numbers; directions = p.directions })
 
 -- a pass and the line that says it, without where the name lies
 abbrev pub entry_of : Entry → plain.Entry
-entry_of e = record { pass = record { name = string_bytes e.name; numbers = e.numbers }; line = e.line }
+entry_of e = record { pass = record { name = string_bytes e.name; numbers = e.numbers; directions = e.directions }; line = e.line }
 
 -- a list as far as it is read, without where its names lie
 abbrev pub view_of : Draft → plain.Draft

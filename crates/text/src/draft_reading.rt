@@ -1,13 +1,13 @@
 // A list as far as it is read, line by line.
 ghost use Rattle.std.specs.Prelude.{◌≡◌, OnErr};
-ghost use Rattle.text.specs.Drafts.{at_line, with_said, with_line, draft_of};
+ghost use Rattle.text.specs.Drafts.{at_line, misfit, with_said, with_line, draft_of};
 ghost use Rattle.text.specs.Lines.{Said};
 ghost use Rattle.text.specs.Results.{GivesIfMemory, LeavesIfMemory};
 ghost use Rattle.text.specs.Views.{view_of, said_of};
 
 use crate::draft::{Draft, Entry, StationLine};
 use crate::faults::{LineFault, ReadError, unreadable};
-use crate::line::{Line, NamedPass};
+use crate::line::{Ends, Line, NamedPass};
 use crate::line_reading::line_of;
 use crate::words::{lines_of, words_of};
 use std::alloc::{AllocError, Global};
@@ -54,15 +54,21 @@ impl Draft {
     {
         match said {
             Line::Nothing => Ok(()),
-            Line::Station { dishes, turn } => self.take_station(dishes, turn, at),
+            Line::Station { dishes, turn, step } => self.take_station(dishes, turn, step, at),
             Line::Pass(pass) => self.take_pass(alloc, pass, at),
         }
     }
 
     // A station is said once, and before all passes.
     #[tactic(auto, unfolding(crate::specs::Drafts::with_said, crate::specs::Drafts::at_line))]
-    fn take_station(&mut self, dishes: u32, turn: u32, at: usize) -> Result<(), ReadError>
-        ensures read { LeavesIfMemory result (at_line at (with_said at (view_of self.old) (Said.station dishes turn))) (view_of self.new) }
+    fn take_station(
+        &mut self,
+        dishes: u32,
+        turn: u32,
+        step: Option<u32>,
+        at: usize,
+    ) -> Result<(), ReadError>
+        ensures read { LeavesIfMemory result (at_line at (with_said at (view_of self.old) (Said.station dishes turn step))) (view_of self.new) }
         ensures kept { OnErr result (view_of self.new ≡ view_of self.old) }
     {
         if self.station.is_some() {
@@ -71,26 +77,43 @@ impl Draft {
         self.station = Some(StationLine {
             dishes,
             turn,
+            step,
             line: at,
         });
         Ok(())
     }
 
-    // A pass comes after the station.
+    // A pass comes after the station, and fits it.
     #[tactic(auto, unfolding(crate::specs::Drafts::with_said, crate::specs::Drafts::at_line))]
     fn take_pass(&mut self, alloc: Global, pass: NamedPass, at: usize) -> Result<(), ReadError>
-        ensures read { LeavesIfMemory result (at_line at (with_said at (view_of self.old) (Said.pass (record { name = pass.entry.name.now; numbers = pass.entry.numbers })))) (view_of self.new) }
+        ensures read { LeavesIfMemory result (at_line at (with_said at (view_of self.old) (Said.pass (record { name = pass.entry.name.now; numbers = pass.entry.numbers; directions = pass.entry.directions })))) (view_of self.new) }
         ensures kept { OnErr result (view_of self.new ≡ view_of self.old) }
     {
-        if self.station.is_none() {
-            return Err(unreadable(at, LineFault::NoStation));
+        if let Some(fault) = misfit(self.station, pass.directions) {
+            return Err(unreadable(at, fault));
         }
         let name = String::from_str(alloc, pass.name)?;
         self.entries.push(Entry {
             name,
             numbers: pass.numbers,
+            directions: pass.directions,
             line: at,
         })?;
         Ok(())
+    }
+}
+
+// What is wrong with a pass with these directions behind this station.
+#[tactic(auto, unfolding(crate::specs::Drafts::misfit))]
+fn misfit(station: Option<StationLine>, directions: Option<Ends>) -> Option<LineFault>
+    ensures { result ≡ misfit station directions }
+{
+    let Some(station) = station else {
+        return Some(LineFault::NoStation);
+    };
+    match (station.step, directions) {
+        (Some(_), None) => Some(LineFault::NoDirections),
+        (None, Some(_)) => Some(LineFault::NoStep),
+        _ => None,
     }
 }

@@ -2,7 +2,7 @@ ghost use Rattle.std.specs.Prelude.{◌≡◌};
 ghost use Rattle.text.specs.declared.faults.ReadError.TheVariants.{Memory};
 ghost use Rattle.text.specs.Refusals.{number_of, place_of, line_of};
 
-use passes::Refusal;
+use slewing::SlewRefusal;
 use std::alloc::{AllocError, AllocFailed};
 
 // Why a line of a text can't be read.
@@ -28,6 +28,10 @@ pub enum LineFault {
     SecondStation,
     // A pass comes before the station, or the text ends without one.
     NoStation,
+    // The station has a step, and a pass has no directions.
+    NoDirections,
+    // A pass has directions, and the station has no step.
+    NoStep,
 }
 
 // A line that can't be read, counted from 0, and why.
@@ -56,6 +60,10 @@ pub enum ListRule {
     Marks,
     // It begins no sooner than the one before it.
     Order,
+    // Dishes take at most 1,000,000 seconds for a step.
+    Step,
+    // The directions of a pass are 0 to 63.
+    Directions,
 }
 
 // Why a text is turned away.
@@ -66,7 +74,7 @@ pub enum TurnedAway {
     // All lines can be read, and this applies to what they say; the line is that of the station or of the pass at fault, and the rule is the one that
     // it breaks.
     Refused {
-        refusal: Refusal,
+        refusal: SlewRefusal,
         line: usize,
         rule: ListRule,
     },

@@ -1,5 +1,5 @@
 // Theorems about the definitions, as contracts.
-ghost use Rattle.text.specs.Statements.{FirstAtFault, UnreadableFirst, RefusedForWhatItSays, RuleIsBroken, NoRoom, RoundTrip};
+ghost use Rattle.text.specs.Statements.{FirstAtFault, UnreadableFirst, RefusedForWhatItSays, RuleIsBroken, NoRoom, AllOrNone, RoundTrip};
 
 // The line for which a text is turned away is the first that can't be read, or the one in which a text without a station ends.
 pub fn first_at_fault_stands() -> u8
@@ -20,6 +20,13 @@ pub fn refused_for_what_it_says_stands() -> u8
     ensures says { RefusedForWhatItSays }
     ensures broken { RuleIsBroken }
     ensures no_room { NoRoom }
+{
+    0
+}
+
+// Of the passes that a list is read from all have directions, or none has.
+pub fn all_or_none_stands() -> u8
+    ensures { AllOrNone }
 {
     0
 }

@@ -20,7 +20,7 @@ mod writing;
 
 pub use faults::{BadLine, LineFault, ListRule, ReadError, TurnedAway};
 pub use laws::{
-    first_at_fault_stands, refused_for_what_it_says_stands, round_trip_stands,
+    all_or_none_stands, first_at_fault_stands, refused_for_what_it_says_stands, round_trip_stands,
     unreadable_first_stands,
 };
 pub use messages::refusal_line;

@@ -20,14 +20,24 @@ impl LineFault {
         match self {
             LineFault::TooLong => "a line has at most 1000 bytes",
             LineFault::UnknownWord => "a line begins with dishes, pass or #",
-            LineFault::NotStation => "a station is written as: dishes 2 turn 3",
-            LineFault::NotPass => "a pass is written as: pass hermes 0 10 worth 5 dishes 0 1",
+            LineFault::NotStation => {
+                "a station is written as: dishes 2 turn 3, or with a step: dishes 2 turn 3 step 4"
+            }
+            LineFault::NotPass => {
+                "a pass is written as: pass hermes 0 10 worth 5 dishes 0 1, or with directions behind: directions 12 40"
+            }
             LineFault::BadName => "a name is 1 to 32 letters, digits, - _ or .",
             LineFault::BadNumber => "a number is digits and below 4294967296",
             LineFault::BadDish => "a dish is a number below 32",
             LineFault::DishTwice => "a dish is named twice",
             LineFault::SecondStation => "a list has one station, and this is a second",
             LineFault::NoStation => "the station comes first, as: dishes 2 turn 3",
+            LineFault::NoDirections => {
+                "the station has a step, so a pass has directions, as: pass hermes 0 10 worth 5 dishes 0 1 directions 12 40"
+            }
+            LineFault::NoStep => {
+                "a pass has directions only where the station has a step, as: dishes 2 turn 3 step 4"
+            }
         }
     }
 }
@@ -57,6 +67,8 @@ impl ListRule {
             ListRule::Worth => "a pass is worth at most 1000000",
             ListRule::Marks => "dishes are 0 to 3",
             ListRule::Order => "a pass begins no sooner than the one before it",
+            ListRule::Step => "dishes take at most 1000000 seconds for a step",
+            ListRule::Directions => "directions are 0 to 63",
         }
     }
 }

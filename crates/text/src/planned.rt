@@ -1,9 +1,11 @@
 ghost use Rattle.std.specs.Prelude.{◌≡◌, true, vec_len, IfOk};
 ghost use Rattle.passes.specs.Nights.{passes_of};
-ghost use Rattle.passes.specs.Plans.{fits, worth_of, Best};
+ghost use Rattle.passes.specs.Plans.{fits, worth_of};
+ghost use Rattle.planner.specs.Ruled.{BestBy};
+ghost use Rattle.text.specs.Lists.{good_of};
 
 use crate::nights::NamedNight;
-use planner::plan_taken;
+use slewing::plan_directed;
 use std::alloc::{AllocError, Global};
 
 // A night with a good plan for it, and what the plan is worth.
@@ -18,14 +20,13 @@ pub struct Planned {
 }
 
 impl NamedNight {
-    // Plans the night: no good plan is worth more.
+    // Plans the night, by its directions if it has any: no good plan is worth more.
     pub fn plan(self, alloc: Global) -> Result<Planned, AllocError>
         ensures same { IfOk result (λ p. p.night ≡ self) }
-        ensures best { IfOk result (λ p. Best self.night.station (passes_of self.night) p.plan.items) }
-        ensures worth { IfOk result (λ p. p.worth ≡ worth_of (passes_of self.night) p.plan.items) }
+        ensures best { IfOk result (λ p. BestBy (good_of self) (passes_of self.night) p.plan.items p.worth) }
     {
         let mut plan = vec![in alloc; 0; self.night.passes().len()]?;
-        let worth = plan_taken(&self.night, &mut plan).unwrap();
+        let worth = plan_directed(&self.night, self.slewing, &mut plan).unwrap();
         Ok(Planned {
             night: self,
             plan,

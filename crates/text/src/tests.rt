@@ -1,5 +1,6 @@
 use super::*;
-use passes::{Night, Refusal};
+use passes::Night;
+use slewing::Sweep;
 use std::alloc::{AllocError, Global};
 use std::test::Fail;
 
@@ -149,19 +150,19 @@ const TURNED_AWAY: [(&[u8], &str); 28] = [
     ),
     (
         b"dishes 2 turn\n",
-        "number 4 at 0: a station is written as: dishes 2 turn 3, in line 1",
+        "number 4 at 0: a station is written as: dishes 2 turn 3, or with a step: dishes 2 turn 3 step 4, in line 1",
     ),
     (
         b"dishes 2 turn 3 4\n",
-        "number 4 at 0: a station is written as: dishes 2 turn 3, in line 1",
+        "number 4 at 0: a station is written as: dishes 2 turn 3, or with a step: dishes 2 turn 3 step 4, in line 1",
     ),
     (
         b"dishes 2 turn 3\npass hermes 0 10 worth 5\n",
-        "number 4 at 1: a pass is written as: pass hermes 0 10 worth 5 dishes 0 1, in line 2",
+        "number 4 at 1: a pass is written as: pass hermes 0 10 worth 5 dishes 0 1, or with directions behind: directions 12 40, in line 2",
     ),
     (
         b"dishes 2 turn 3\npass hermes 0 10 dishes 0 worth 5\n",
-        "number 4 at 1: a pass is written as: pass hermes 0 10 worth 5 dishes 0 1, in line 2",
+        "number 4 at 1: a pass is written as: pass hermes 0 10 worth 5 dishes 0 1, or with directions behind: directions 12 40, in line 2",
     ),
     // numbers
     (
@@ -234,7 +235,7 @@ const TURNED_AWAY: [(&[u8], &str); 28] = [
     // a line that can't be read comes before all that is wrong with a list
     (
         b"dishes 9 turn 3\npass a 9 8 worth 5 dishes 0\npass\n",
-        "number 4 at 2: a pass is written as: pass hermes 0 10 worth 5 dishes 0 1, in line 3",
+        "number 4 at 2: a pass is written as: pass hermes 0 10 worth 5 dishes 0 1, or with directions behind: directions 12 40, in line 3",
     ),
 ];
 
@@ -246,6 +247,79 @@ fn texts_that_are_turned_away(rt: HostRuntime) -> Result<(), Fail> {
         };
         assert_eq!(rt; said.as_str(), why);
     }
+    Ok(())
+}
+
+// Texts with directions, and what they are written as again, or why they are turned away.
+const DIRECTED: [(&str, &str); 13] = [
+    (
+        "dishes 2 turn 3 step 1000000\npass a 0 10 worth 5 dishes 1 0 directions 12 40\npass b 20 30 worth 5 dishes directions 63 00",
+        "dishes 2 turn 3 step 1000000\npass a 0 10 worth 5 dishes 0 1 directions 12 40\npass b 20 30 worth 5 dishes directions 63 0\n",
+    ),
+    ("dishes 2 turn 3 step 0", "dishes 2 turn 3 step 0\n"),
+    // only some passes have directions
+    (
+        "dishes 2 turn 3 step 4\npass a 0 10 worth 5 dishes 0 directions 12 40\npass b 20 30 worth 5 dishes 0\n",
+        "number 4 at 2: the station has a step, so a pass has directions, as: pass hermes 0 10 worth 5 dishes 0 1 directions 12 40, in line 3",
+    ),
+    (
+        "dishes 2 turn 3\npass a 0 10 worth 5 dishes 0\npass b 20 30 worth 5 dishes 0 directions 12 40\n",
+        "number 4 at 2: a pass has directions only where the station has a step, as: dishes 2 turn 3 step 4, in line 3",
+    ),
+    // words
+    (
+        "dishes 2 turn 3 step\n",
+        "number 4 at 0: a station is written as: dishes 2 turn 3, or with a step: dishes 2 turn 3 step 4, in line 1",
+    ),
+    (
+        "dishes 2 step 4 turn 3\n",
+        "number 4 at 0: a station is written as: dishes 2 turn 3, or with a step: dishes 2 turn 3 step 4, in line 1",
+    ),
+    (
+        "dishes 2 turn 3 step 4\npass a 0 10 worth 5 dishes 0 directions 12\n",
+        "number 4 at 1: a pass is written as: pass hermes 0 10 worth 5 dishes 0 1, or with directions behind: directions 12 40, in line 2",
+    ),
+    (
+        "dishes 2 turn 3 step 4\npass a 0 10 worth 5 directions 12 40 dishes 0\n",
+        "number 4 at 1: a pass is written as: pass hermes 0 10 worth 5 dishes 0 1, or with directions behind: directions 12 40, in line 2",
+    ),
+    (
+        "dishes 2 turn 3 step 4\npass a 0 10 worth 5 dishes 0 directions 12 4x\n",
+        "number 4 at 1: a number is digits and below 4294967296, in line 2",
+    ),
+    // lines that can be read, of lists that are turned away: first for what has nothing to do with directions, then for the step
+    (
+        "dishes 2 turn 3 step 1000001\npass a 9 8 worth 5 dishes 0 directions 64 0\n",
+        "number 2 at 0: a pass ends after it begins, in line 2",
+    ),
+    (
+        "# a step\ndishes 2 turn 3 step 1000001\npass a 0 10 worth 5 dishes 0 directions 64 0\n",
+        "number 5 at 0: dishes take at most 1000000 seconds for a step, in line 2",
+    ),
+    (
+        "dishes 2 turn 3 step 4\npass a 0 10 worth 5 dishes 0 directions 0 63\n\npass b 20 30 worth 5 dishes 0 directions 64 0\n",
+        "number 5 at 1: directions are 0 to 63, in line 4",
+    ),
+    (
+        "dishes 2 turn 3 step 4\npass a 0 10 worth 5 dishes 0 directions 0 64\n",
+        "number 5 at 0: directions are 0 to 63, in line 2",
+    ),
+];
+
+#[test]
+fn directions(rt: HostRuntime) -> Result<(), Fail> {
+    for (text, said) in DIRECTED {
+        let (Ok(told) | Err(told)) = outcome(rt.alloc(), text.as_bytes())?;
+        assert_eq!(rt; told.as_str(), said);
+    }
+    let Ok(night) = NamedNight::read(rt.alloc(), DIRECTED[0].0.as_bytes()) else {
+        return Err(Fail::from("a text was turned away"));
+    };
+    let Some(slewing) = night.slewing() else {
+        return Err(Fail::from("the list has directions"));
+    };
+    assert_eq!(rt; slewing.step(), 1_000_000);
+    assert_eq!(rt; slewing.sweeps().get(1), Some(&Sweep { begin: 63, end: 0 }));
     Ok(())
 }
 

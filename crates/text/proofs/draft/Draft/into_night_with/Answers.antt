@@ -1,23 +1,18 @@
-use Rattle.std.proofs.Common.{map, ap, ◌∙◌}
-use Rattle.passes.specs.Numbers.{passes_in}
-use Rattle.passes.specs.Refusals.{refused}
+use Rattle.std.proofs.Common.{map, ◌∙◌}
 use Rattle.text.specs.Views.{entry_of}
-use Rattle.text.proofs.TakingLists.{each_named, turned_away, accepted, same_list}
+use Rattle.text.proofs.Directed.{each_pass}
+use Rattle.text.proofs.TakingLists.{each_named, accepted, same_list}
 use Rattle.text.proofs.draft.Draft.into_night_with.Goals as goal
 
+pub with_directions-requires : goal.with_directions-requires
+with_directions-requires c =
+    each_pass c.args.station (map entry_of c.args.self.entries.items) c.in_ok-night.night c.in_ok-night.ensures c.in_ok-slewing.slewing c.in_ok-slewing.ensures
+
 pub unwrap-requires : goal.unwrap-requires
-unwrap-requires c =
-    let same = c.deref.ensures.value ∙ c.in_ok-numbers.ensures in
-    let passes = c.in-Ok.ensures.night.same_passes ∙ ap passes_in same in
-    c.new.ensures.taken ∙ rw (passes, c.in_ok-into_names-in-Ok.ensures) (each_named c.args.self.entries.items)
+unwrap-requires c = c.with_directions.ensures.taken ∙ rw (c.in_ok-night.ensures.same.same_passes, c.in_ok-into_names.ensures) (each_named c.args.self.entries.items)
 
-pub returns-in_ok-into_names-in-Ok : goal.returns-in_ok-into_names-in-Ok
-returns-in_ok-into_names-in-Ok c =
-    let same = c.deref.ensures.value ∙ c.in_ok-numbers.ensures in
-    let taken = accepted c.args.station (map entry_of c.args.self.entries.items) (c.in-Ok.ensures.refusal ∙ ap (refused c.args.station.dishes c.args.station.turn) same) in
-    taken ∙ same_list c.new.result c.unwrap.result _ _ _ _ _ c.unwrap.ensures c.new.ensures.same c.in-Ok.ensures.night.same_station (c.in-Ok.ensures.night.same_passes ∙ ap passes_in same) c.in_ok-into_names-in-Ok.ensures
-
-pub returns-in-Err : goal.returns-in-Err
-returns-in-Err c =
-    let same = c.deref.ensures.value ∙ c.in_ok-numbers.ensures in
-    rw (c.line_about.ensures, c.rule_about.ensures) (turned_away c.args.station (map entry_of c.args.self.entries.items) c.in-Err.refusal (c.in-Err.ensures.refusal ∙ ap (refused c.args.station.dishes c.args.station.turn) same))
+pub returns : goal.returns
+returns c =
+    let taken = accepted c.args.station (map entry_of c.args.self.entries.items) c.in_ok-slewing.ensures.taken in
+    let night = c.in_ok-night.ensures.same in
+    taken ∙ same_list c.with_directions.result c.unwrap.result _ _ _ _ _ _ _ c.unwrap.ensures c.with_directions.ensures.same night.same_station night.same_passes c.in_ok-into_names.ensures c.in_ok-slewing.ensures.same

@@ -1,22 +1,19 @@
-use Rattle.std.proofs.Common.{string_bytes, ap, ◌∙◌, arith}
-use Rattle.std.proofs.lemmas.Grind.{common_steps}
-use Rattle.std.proofs.lemmas.Slice.Zip.{either_empty_from_Zip}
+use Rattle.std.proofs.Common.{string_bytes, append-nil, sym, ap, ◌∙◌}
+use Rattle.std.specs.Prelude.{option_map}
+use Rattle.passes.specs.Nights.{passes_of}
+use Rattle.slewing.specs.Slewings.{directed_of}
 use Rattle.text.specs.Reading.{read_text}
+use Rattle.text.specs.Writing.{sweeps_each}
 use Rattle.text.proofs.RoundTrip.{night_back}
-use Rattle.text.proofs.Ends.{no_pairs}
+use Rattle.text.proofs.Written.{no_lines}
 use Rattle.text.proofs.nights.NamedNight.write.Goals as goal
-
-pub loop-name-preserved : goal.loop-name-preserved
-loop-name-preserved c =
-    let turn = c.in-Some.ensures.steps in
-    let left = rw (turn.0, turn.1) at c.loop-name.invariant in
-    grind (arith, common_steps, left)
 
 pub returns-clause-written : goal.returns-clause-written
 returns-clause-written c =
-    let none = no_pairs string_bytes _ _ (either_empty_from_Zip _ c.next.new.self _ c.in-None.is c.next.ensures.steps) in
-    let made = rw none at c.loop-name.invariant in
-    grind (arith, common_steps, made)
+    let passes = passes_of c.args.self.now.night in
+    let sweeps = sweeps_each (option_map directed_of c.args.self.now.slewing) passes in
+    let made = rw (no_lines c.loop-pass.pass c.deref-name-items.result.now passes sweeps c.loop-pass-test.false) at c.loop-pass.invariant in
+    sym (append-nil (string_bytes c.loop-pass.text)) ∙ made
 
 pub returns-clause-again : goal.returns-clause-again
 returns-clause-again c = ap read_text (returns-clause-written c) ∙ night_back c.args.self.now

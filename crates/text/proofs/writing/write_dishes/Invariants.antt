@@ -1,6 +1,6 @@
 use Rattle.std.proofs.Common.{◌≡◌, ◌++◌, string_bytes}
 use Rattle.text.proofs.Marked.{marked}
-use Rattle.text.proofs.writing.write_pass.Given as goal
+use Rattle.text.proofs.writing.write_dishes.Given as goal
 
 -- the dishes so far are written
 abbrev pub invariant-loop-dish : goal.invariant-loop-dish
