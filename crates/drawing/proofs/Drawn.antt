@@ -14,6 +14,7 @@ use Rattle.drawing.specs.declared.scale.Scale.{Scale}
 use Rattle.drawing.specs.Columns.{columns, place_on, scale_of}
 use Rattle.drawing.specs.Rows.{letter, in_lane, begin_column, bar_from, bars_from, over, cell, bars_of, row}
 use Rattle.drawing.specs.Shown.{Shown}
+use Rattle.drawing.specs.Turning.{turning_after}
 use Rattle.drawing.specs.Timelines.{LettersInTheirRows}
 use Rattle.drawing.proofs.LaneBars.{in_lane-cons}
 
@@ -23,13 +24,13 @@ begin_after : (c free left k : ℕ) → left ≡ suc k → free + left ≤ colum
 unfolding begin_column
 begin_after c free left k some room = (omega arith, omega arith)
 
-over_before : (turn : ℕ) (s : Scale) (d i b : ℕ) (p : Pass) (c under : ℕ) → c < b → over c under (bar_from turn s d i b p) ≡ under
+over_before : (turning : ℕ) (s : Scale) (i b : ℕ) (p : Pass) (c under : ℕ) → c < b → over c under (bar_from turning s i b p) ≡ under
 unfolding over bar_from
-over_before turn s d i b p c under lt = grind (arith, nat_tests)
+over_before turning s i b p c under lt = grind (arith, nat_tests)
 
-over_begin : (turn : ℕ) (s : Scale) (d i b : ℕ) (p : Pass) (under : ℕ) → over b under (bar_from turn s d i b p) ≡ letter i
+over_begin : (turning : ℕ) (s : Scale) (i b : ℕ) (p : Pass) (under : ℕ) → over b under (bar_from turning s i b p) ≡ letter i
 unfolding over bar_from
-over_begin turn s d i b p under = grind (arith, nat_tests)
+over_begin turning s i b p under = grind (arith, nat_tests)
 
 -- what stands in a column after a bar: what stood there, a dot, or the bar's letter
 abbrev Stands : ℕ → ℕ → ℕ → Type 0
@@ -41,26 +42,26 @@ picks false true r under i = inr (inr refl)
 picks false false true under i = inr (inl refl)
 picks false false false under i = inl refl
 
-over_stands : (turn : ℕ) (s : Scale) (d i b : ℕ) (p : Pass) (c under : ℕ) → Stands (over c under (bar_from turn s d i b p)) under i
+over_stands : (turning : ℕ) (s : Scale) (i b : ℕ) (p : Pass) (c under : ℕ) → Stands (over c under (bar_from turning s i b p)) under i
 unfolding over bar_from
-over_stands turn s d i b p c under = picks _ _ _ under i
+over_stands turning s i b p c under = picks _ _ _ under i
 
 -- ---- all bars of a lane
 
-module _ (turn : ℕ) (s : Scale) (d : ℕ) where
+module _ (turning : ℕ → ℕ) (s : Scale) (d : ℕ) where
   -- a bar, and those of the passes after it
   abbrev with_bar : (free i : ℕ) → Pass → List Pass → (e : ℕ) → Plan → List Bar
   with_bar free i p ps e ds =
       let b : ℕ = begin_column (place_on columns s p.from) free (in_lane d (e ∷ ds)) in
-      bar_from turn s d i b p ∷ bars_from turn s d (suc b) (suc i) ps ds
+      bar_from (turning i) s i b p ∷ bars_from turning s d (suc b) (suc i) ps ds
 
-  made : (free i : ℕ) (p : Pass) (ps : List Pass) (e : ℕ) (ds : Plan) → (e == d) ≡ true → bars_from turn s d free i (p ∷ ps) (e ∷ ds) ≡ with_bar free i p ps e ds
+  made : (free i : ℕ) (p : Pass) (ps : List Pass) (e : ℕ) (ds : Plan) → (e == d) ≡ true → bars_from turning s d free i (p ∷ ps) (e ∷ ds) ≡ with_bar free i p ps e ds
   unfolding bars_from
   made free i p ps e ds its = rw its refl
 
   passed_by :
       (free i : ℕ) (p : Pass) (ps : List Pass) (e : ℕ) (ds : Plan) → (e == d) ≡ false →
-      bars_from turn s d free i (p ∷ ps) (e ∷ ds) ≡ bars_from turn s d free (suc i) ps ds
+      bars_from turning s d free i (p ∷ ps) (e ∷ ds) ≡ bars_from turning s d free (suc i) ps ds
   unfolding bars_from
   passed_by free i p ps e ds other = rw other refl
 
@@ -73,7 +74,7 @@ module _ (turn : ℕ) (s : Scale) (d : ℕ) where
   -- bars begin at the first free column or later, so they leave what stands before it
   later :
       (c under free i : ℕ) (ps : List Pass) (ds : Plan) → c < free → free + in_lane d ds ≤ columns →
-      fold (over c) under (bars_from turn s d free i ps ds) ≡ under
+      fold (over c) under (bars_from turning s d free i ps ds) ≡ under
   unfolding bars_from
   later c under free i [] ds lt room = refl
   later c under free i (p ∷ ps) [] lt room = refl
@@ -84,7 +85,7 @@ module _ (turn : ℕ) (s : Scale) (d : ℕ) where
             let one = one_left e ds its in
             let at = begin_after (place_on columns s p.from) free (in_lane d (e ∷ ds)) (in_lane d ds) one room in
             rw (made free i p ps e ds its)
-            (later c (over c under (bar_from turn s d i b p)) (suc b) (suc i) ps ds (omega arith) (omega arith) ∙ over_before turn s d i b p c under (omega arith))
+            (later c (over c under (bar_from (turning i) s i b p)) (suc b) (suc i) ps ds (omega arith) (omega arith) ∙ over_before (turning i) s i b p c under (omega arith))
         | inr other ↦ rw (passed_by free i p ps e ds other) (later c under free (suc i) ps ds lt (omega (arith, none_left e ds other)))
       ]
 
@@ -92,7 +93,7 @@ module _ (turn : ℕ) (s : Scale) (d : ℕ) where
   drawn :
       (free i : ℕ) (ps : List Pass) (ds : Plan) (j : ℕ) →
       j < length ps → length ds ≡ length ps → says ds j ≡ d → free + in_lane d ds ≤ columns →
-      (c : ℕ) × (c < columns) × ((under : ℕ) → fold (over c) under (bars_from turn s d free i ps ds) ≡ letter (i + j))
+      (c : ℕ) × (c < columns) × ((under : ℕ) → fold (over c) under (bars_from turning s d free i ps ds) ≡ letter (i + j))
   drawn free i [] ds j lt len is room = absurd (omega arith)
   drawn free i (p ∷ ps) [] j lt len is room = absurd (omega arith)
   drawn free i (p ∷ ps) (e ∷ ds) zero lt len is room =
@@ -105,10 +106,10 @@ module _ (turn : ℕ) (s : Scale) (d : ℕ) where
         omega arith,
         λ under. rw (
           made free i p ps e ds its,
-          later b (over b under (bar_from turn s d i b p)) (suc b) (suc i) ps ds (omega arith)
+          later b (over b under (bar_from (turning i) s i b p)) (suc b) (suc i) ps ds (omega arith)
               (omega arith),
           same,
-        ) (over_begin turn s d i b p under),
+        ) (over_begin (turning i) s i b p under),
       )
   drawn free i (p ∷ ps) (e ∷ ds) (suc j) lt len is room =
       let next : suc i + j ≡ i + suc j = omega arith in
@@ -118,7 +119,7 @@ module _ (turn : ℕ) (s : Scale) (d : ℕ) where
             let one = one_left e ds its in
             let at = begin_after (place_on columns s p.from) free (in_lane d (e ∷ ds)) (in_lane d ds) one room in
             let r = drawn (suc b) (suc i) ps ds j (omega arith) (omega arith) is (omega arith) in
-            (r.0, r.1, λ under. rw (made free i p ps e ds its) (r.2 (over r.0 under (bar_from turn s d i b p)) ∙ ap letter next))
+            (r.0, r.1, λ under. rw (made free i p ps e ds its) (r.2 (over r.0 under (bar_from (turning i) s i b p)) ∙ ap letter next))
         | inr other ↦
             let r = drawn free (suc i) ps ds j (omega arith) (omega arith) is (omega (arith, none_left e ds other)) in
             (r.0, r.1, λ under. rw (passed_by free i p ps e ds other) (r.2 under ∙ ap letter next))
@@ -146,7 +147,7 @@ module _ (turn : ℕ) (s : Scale) (d : ℕ) where
   among_over x below under i p ps e ds its stands (inr (inl dot)) = inr (inl dot)
   among_over x below under i p ps e ds its stands (inr (inr r)) = among_later x under i p ps e ds (inr (inr r))
 
-  only : (c under free i : ℕ) (ps : List Pass) (ds : Plan) → Among (fold (over c) under (bars_from turn s d free i ps ds)) under i ps ds
+  only : (c under free i : ℕ) (ps : List Pass) (ds : Plan) → Among (fold (over c) under (bars_from turning s d free i ps ds)) under i ps ds
   unfolding bars_from
   only c under free i [] ds = inl refl
   only c under free i (p ∷ ps) [] = inl refl
@@ -154,9 +155,9 @@ module _ (turn : ℕ) (s : Scale) (d : ℕ) where
       elim (cases_Bool (e == d)) [
         | inl its ↦
             let b = begin_column (place_on columns s p.from) free (in_lane d (e ∷ ds)) in
-            let below = over c under (bar_from turn s d i b p) in
+            let below = over c under (bar_from (turning i) s i b p) in
             rw (made free i p ps e ds its)
-            (among_over _ below under i p ps e ds its (over_stands turn s d i b p c under) (only c below (suc b) (suc i) ps ds))
+            (among_over _ below under i p ps e ds its (over_stands (turning i) s i b p c under) (only c below (suc b) (suc i) ps ds))
         | inr other ↦ rw (passed_by free i p ps e ds other) (among_later _ under i p ps e ds (only c under free (suc i) ps ds))
       ]
 
@@ -181,14 +182,14 @@ row_at shown d c lt = get_or-map-range_with_len (cell (bars_of shown d)) 0 colum
 module _ (shown : Shown) (few : length shown.passes ≤ 48) (planned : length shown.plan ≡ length shown.passes) where
   its_letter : (i d : ℕ) → i < length shown.passes → says shown.plan i ≡ d → (c : ℕ) × (c < columns) × (slice_index (row shown d) c ≡ letter i)
   its_letter i d lt is =
-      let r = drawn shown.station.turn (scale_of shown.passes) d 0 0 shown.passes shown.plan i lt planned is (omega (arith, in_lane-le d shown.plan)) in
+      let r = drawn (turning_after shown) (scale_of shown.passes) d 0 0 shown.passes shown.plan i lt planned is (omega (arith, in_lane-le d shown.plan)) in
       let same : 0 + i ≡ i = omega arith in
       (r.0, r.1, row_at shown d r.0 r.1 ∙ r.2 32 ∙ ap letter same)
 
   its_lane : (i d c : ℕ) → i < length shown.passes → c < columns → slice_index (row shown d) c ≡ letter i → says shown.plan i ≡ d
   its_lane i d c lt column stands =
       let is : cell (bars_of shown d) c ≡ letter i = sym (row_at shown d c column) ∙ stands in
-      elim (only shown.station.turn (scale_of shown.passes) d c 32 0 0 shown.passes shown.plan) [
+      elim (only (turning_after shown) (scale_of shown.passes) d c 32 0 0 shown.passes shown.plan) [
         | inl blank ↦ absurd ((letter_ink i).0 (sym is ∙ blank))
         | inr (inl dot) ↦ absurd ((letter_ink i).1 (sym is ∙ dot))
         | inr (inr r) ↦

@@ -17,26 +17,26 @@ pub in_lane-drop : (d : ℕ) (ds : Plan) (i : ℕ) → i < length ds → in_lane
 unfolding in_lane
 in_lane-drop d ds i lt = sum_by-drop_more (λ x. cond (x == d) 1 0) ds i 0 lt
 
-module _ (turn : ℕ) (s : Scale) (d free i : ℕ) (ps : List Pass) (ds : Plan) (in_ps : i < length ps) (in_ds : i < length ds) where
+module _ (turning : ℕ → ℕ) (s : Scale) (d free i : ℕ) (ps : List Pass) (ds : Plan) (in_ps : i < length ps) (in_ds : i < length ds) where
   -- the bars of the passes from pass i on, where the plan gives pass i the lane
   pub bars-yes :
       (b : ℕ) → (says ds i == d) ≡ true → b ≡ begin_column (place_on columns s (nth ps i).from) free (in_lane d (drop i ds))
-      → bars_from turn s d free i (drop i ps) (drop i ds) ≡ bar_from turn s d i b (nth ps i) ∷ bars_from turn s d (b + 1) (i + 1) (drop (i + 1) ps) (drop (i + 1) ds)
+      → bars_from turning s d free i (drop i ps) (drop i ds) ≡ bar_from (turning i) s i b (nth ps i) ∷ bars_from turning s d (b + 1) (i + 1) (drop (i + 1) ps) (drop (i + 1) ds)
   unfolding bars_from
   bars-yes b its begins =
       rw (begins, add-one, add-one, drop-cons ps i no_pass, drop-cons ds i 0, its) refl
 
   -- and where it doesn't
-  pub bars-no : (says ds i == d) ≡ false → bars_from turn s d free i (drop i ps) (drop i ds) ≡ bars_from turn s d free (i + 1) (drop (i + 1) ps) (drop (i + 1) ds)
+  pub bars-no : (says ds i == d) ≡ false → bars_from turning s d free i (drop i ps) (drop i ds) ≡ bars_from turning s d free (i + 1) (drop (i + 1) ps) (drop (i + 1) ds)
   unfolding bars_from
   bars-no other = rw (add-one, drop-cons ps i no_pass, drop-cons ds i 0, other) refl
 
   -- one more bar is made
   pub placed :
       (all made : List Bar) (left b : ℕ) →
-      all ≡ made ++ bars_from turn s d free i (drop i ps) (drop i ds) → left ≡ in_lane d (drop i ds) → free + left ≤ columns →
+      all ≡ made ++ bars_from turning s d free i (drop i ps) (drop i ds) → left ≡ in_lane d (drop i ds) → free + left ≤ columns →
       says ds i ≡ d → b ≡ min (max (place_on columns s (nth ps i).from) free) (columns - left) →
-      (all ≡ (made ++ bar_from turn s d i b (nth ps i) ∷ []) ++ bars_from turn s d (b + 1) (i + 1) (drop (i + 1) ps) (drop (i + 1) ds))
+      (all ≡ (made ++ bar_from (turning i) s i b (nth ps i) ∷ []) ++ bars_from turning s d (b + 1) (i + 1) (drop (i + 1) ps) (drop (i + 1) ds))
       × (left - 1 ≡ in_lane d (drop (i + 1) ds))
       × ((b + 1) + (left - 1) ≤ columns)
   unfolding begin_column
@@ -44,7 +44,7 @@ module _ (turn : ℕ) (s : Scale) (d free i : ℕ) (ps : List Pass) (ds : Plan) 
       let test : (says ds i == d) ≡ true = eq-eqb (says ds i) d its in
       let more : in_lane d (drop i ds) ≡ suc (in_lane d (drop (i + 1) ds)) = in_lane-drop d ds i in_ds ∙ rw test (omega arith) in
       let at : b ≡ begin_column (place_on columns s (nth ps i).from) free (in_lane d (drop i ds)) = rw (← many) begins in (
-        rw (so_far, bars-yes b test at) (sym (append_assoc made (bar_from turn s d i b (nth ps i) ∷ []) _)),
+        rw (so_far, bars-yes b test at) (sym (append_assoc made (bar_from (turning i) s i b (nth ps i) ∷ []) _)),
         omega arith,
         omega arith,
       )
@@ -52,8 +52,8 @@ module _ (turn : ℕ) (s : Scale) (d free i : ℕ) (ps : List Pass) (ds : Plan) 
   -- none is made
   pub passed :
       (all made : List Bar) (left : ℕ) →
-      all ≡ made ++ bars_from turn s d free i (drop i ps) (drop i ds) → left ≡ in_lane d (drop i ds) → says ds i ≢ d →
-      (all ≡ made ++ bars_from turn s d free (i + 1) (drop (i + 1) ps) (drop (i + 1) ds)) × (left ≡ in_lane d (drop (i + 1) ds))
+      all ≡ made ++ bars_from turning s d free i (drop i ps) (drop i ds) → left ≡ in_lane d (drop i ds) → says ds i ≢ d →
+      (all ≡ made ++ bars_from turning s d free (i + 1) (drop (i + 1) ps) (drop (i + 1) ds)) × (left ≡ in_lane d (drop (i + 1) ds))
   passed all made left so_far many other =
       let test : (says ds i == d) ≡ false = ne_eqb (says ds i) d other in
       let more : in_lane d (drop i ds) ≡ in_lane d (drop (i + 1) ds) = in_lane-drop d ds i in_ds ∙ rw test (omega arith) in

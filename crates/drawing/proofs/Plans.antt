@@ -1,5 +1,5 @@
 -- What a planned night says of what is drawn of it. Assumes nothing.
-use Rattle.std.proofs.Common.{◌≡◌, ℕ, zero, suc, true, ◌+◌, ◌-◌, ◌*◌, ◌/◌, ◌<◌, ◌≤◌, List, [], ◌∷◌, max, length, slice_index_or, map, arith, rules, inl, inr}
+use Rattle.std.proofs.Common.{◌≡◌, ℕ, zero, suc, true, ◌+◌, ◌-◌, ◌*◌, ◌/◌, ◌<◌, ◌≤◌, List, [], ◌∷◌, max, length, slice_index_or, map, arith, rules, inl, inr, Some, None, Option, option_map}
 use Rattle.std.specs.List.{fold, zip}
 use Rattle.std.specs.Fmt.{decimal}
 use Rattle.std.proofs.Math.Dec.{eqb-suc-zero}
@@ -16,6 +16,9 @@ use Rattle.passes.specs.Plans.{Plan, worth_of}
 use Rattle.passes.specs.Rule.{nth, says}
 use Rattle.passes.proofs.Checking.{checked_says, ranges_from, ranges_say}
 use Rattle.passes.proofs.Goodness.{fits_says}
+use Rattle.slewing.specs.declared.slewings.Slewing.{Slewing}
+use Rattle.slewing.specs.Refusals.{slewing_ok}
+use Rattle.slewing.specs.Slewings.{directed_of}
 use Rattle.text.specs.declared.planned.Planned.{Planned}
 use Rattle.text.specs.Labels.{shared, label_of, labels_of}
 use Rattle.text.specs.Names.{is_name, are_names}
@@ -25,7 +28,7 @@ use Rattle.drawing.specs.declared.scale.Scale.{Scale}
 use Rattle.drawing.specs.Padding.{left}
 use Rattle.drawing.specs.Rows.{cell, bars_of, row}
 use Rattle.drawing.specs.Shown.{Shown, LanesThere, shown_of}
-use Rattle.drawing.specs.Lanes.{heading, lane_name}
+use Rattle.drawing.specs.Lanes.{heading, lane_name, step_told}
 use Rattle.drawing.specs.Timelines.{row_line, label_width, scale_line, key_head, key_line, LettersInTheirRows, LinesFit}
 use Rattle.drawing.proofs.Drawn.{letters_in_rows}
 
@@ -148,13 +151,25 @@ worth_small (p ∷ ps) (d ∷ ds) ok =
     let later = worth_small ps ds (and_parts (in_range p) _ ok).1 in
     grind (arith, nat_tests, here, later)
 
-heading_fits : (shown : Shown) → shown.worth < 100000000 → shown.station.dishes ≤ 4 → shown.station.turn ≤ 100000 → length shown.passes ≤ 48 → length (heading shown) ≤ 79
-heading_fits shown worth dishes turn passes =
+-- the seconds for a step are at most 1000000, as of all directions that are taken
+step_short : (s : Option Slewing) → length (step_told (option_map directed_of s)) ≤ 14
+unfolding step_told slewing_ok
+step_short None = omega arith
+step_short (Some s) =
+    let ok = s.ok in
+    let few : s.step ≤ 1000000 = grind (arith, nat_tests, ok) in
+    let seconds = length-decimal-le 7 s.step (omega arith) (omega (arith, few)) (omega (arith, few)) in
+    rw length-append (omega (arith, seconds))
+
+heading_fits :
+    (shown : Shown) → shown.worth < 100000000 → shown.station.dishes ≤ 4 → shown.station.turn ≤ 100000 → length (step_told shown.directed) ≤ 14 → length shown.passes ≤ 48 →
+    length (heading shown) ≤ 79
+heading_fits shown worth dishes turn step passes =
     let digits = length-decimal-le 8 shown.worth (omega arith) (omega arith) (omega arith) in
     let dish = length-decimal-le 1 shown.station.dishes (omega arith) (omega arith) (omega arith) in
     let seconds = length-decimal-le 6 shown.station.turn (omega arith) (omega arith) (omega arith) in
     let count = length-decimal-le 2 (length shown.passes) (omega arith) (omega arith) (omega arith) in
-    simp length-append (omega (arith, digits, dish, seconds, count))
+    simp length-append (omega (arith, digits, dish, seconds, step, count))
 
 scale_fits : (s : Scale) → s.first ≤ 1000000 → s.last ≤ 1000000 → length (scale_line s) ≤ 80
 scale_fits s low high =
@@ -173,7 +188,7 @@ planned_fits p =
     let narrow = width_short (shown_of p).labels 4 (omega arith) labels in
     let worth = worth_small (passes_of p.night.night) p.plan.items (all_lasting p) in
     record {
-      head = heading_fits (shown_of p) (omega (arith, p.sum, worth, few_passes p)) (four_dishes p) (quick_turn p) (few_passes p);
+      head = heading_fits (shown_of p) (omega (arith, p.sum, worth, few_passes p)) (four_dishes p) (quick_turn p) (step_short p.night.slewing) (few_passes p);
       scale = scale_fits (scale_of (passes_of p.night.night)) (first_small (passes_of p.night.night) (all_lasting p)) (last_small (passes_of p.night.night) 0 (omega arith) (all_lasting p));
       key_head = key_head_fits (label_width (shown_of p).labels) narrow;
       rows = λ d le. row_fits (shown_of p) d (omega (arith, le, four_dishes p));

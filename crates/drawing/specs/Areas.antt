@@ -5,8 +5,8 @@ use Rattle.passes.specs.Rule.{nth, says}
 use Rattle.drawing.specs.declared.areas.Area.{Area}
 use Rattle.drawing.specs.declared.scale.Scale.{Scale}
 use Rattle.drawing.specs.Columns.{first_second, last_second, place_on}
-use Rattle.drawing.specs.Rows.{turning}
 use Rattle.drawing.specs.Shown.{Shown}
+use Rattle.drawing.specs.Turning.{turning_after}
 
 -- the scale of a drawing ends when a dish that followed the last pass would have turned
 abbrev pub drawn_scale : Shown → Scale
@@ -36,10 +36,11 @@ ground_area shown count d = record { x = 130; y = top_of (row_of shown d 0); wid
 abbrev pub bar_area : Shown → (row : ℕ) → Pass → Area
 bar_area shown row p = record { x = x_of shown p.from; y = top_of row + 5; width = max 2 (x_of shown p.to - x_of shown p.from); height = 130 }
 
--- the tail of a pass in a row: what its dish needs to turn after it
-abbrev pub tail_area : Shown → (d row : ℕ) → Pass → Area
-tail_area shown d row p =
-    record { x = x_of shown p.to; y = top_of row + 5; width = x_of shown (p.to + turning d shown.station.turn) - x_of shown p.to; height = 130 }
+-- the tail of pass i in a row: what its dish needs to turn after it
+abbrev pub tail_area : Shown → (row i : ℕ) → Area
+tail_area shown row i =
+    let to : ℕ = (nth shown.passes i).to in
+    record { x = x_of shown to; y = top_of row + 5; width = x_of shown (to + turning_after shown i) - x_of shown to; height = 130 }
 
 -- the bar of pass i, which stands in the row of the lane that the plan gives it, and there on its level
 abbrev pub drawn_bar : Shown → (levels : List ℕ) → (i : ℕ) → Area
@@ -47,7 +48,7 @@ drawn_bar shown levels i = bar_area shown (row_of shown (says shown.plan i) (sli
 
 -- the tail of pass i, which stands in the row of its bar
 abbrev pub drawn_tail : Shown → (levels : List ℕ) → (i : ℕ) → Area
-drawn_tail shown levels i = tail_area shown (says shown.plan i) (row_of shown (says shown.plan i) (slice_index levels i)) (nth shown.passes i)
+drawn_tail shown levels i = tail_area shown (row_of shown (says shown.plan i) (slice_index levels i)) i
 
 -- what is written in a bar, a label of so many letters and the worth, stands upright where it wouldn't fit from left to right
 abbrev pub is_upright : (letters width : ℕ) → Bool

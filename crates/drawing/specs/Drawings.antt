@@ -1,14 +1,16 @@
 -- A planned night as an SVG document. Assumes nothing: these are definitions.
-use Rattle.std.specs.Prelude.{ℕ, ◌+◌, ◌-◌, ◌*◌, ◌/◌, cond, List, [], ◌++◌, ◌==◌, length, codes, slice_index, slice_index_or, min}
+use Rattle.std.specs.Prelude.{ℕ, ◌+◌, ◌-◌, ◌*◌, ◌/◌, cond, List, [], ◌++◌, ◌==◌, length, codes, slice_index, slice_index_or, min, Some, None, Option}
 use Rattle.std.specs.Fmt.{decimal}
 use Rattle.std.specs.List.{flat_map, range_with_len}
 use Rattle.passes.specs.declared.model.Pass.{Pass}
 use Rattle.passes.specs.Rule.{nth, says}
+use Rattle.slewing.specs.Slewings.{Directed}
 use Rattle.drawing.specs.declared.areas.Area.{Area}
 use Rattle.drawing.specs.Areas.{drawn_scale, row_of, top_of, height_of, ground_area, bar_area, tail_area, is_upright, size_for}
 use Rattle.drawing.specs.Shown.{Shown}
 use Rattle.drawing.specs.Elements.{rect, text, start, style}
 use Rattle.drawing.specs.Lanes.{heading, lane_name, lanes}
+use Rattle.drawing.specs.Turning.{sweep_of}
 
 -- a lane: its name, and a ground for its rows, of which so many are for those that aren't followed
 unfoldable pub lane_ground : Shown → (count d : ℕ) → List ℕ
@@ -37,12 +39,18 @@ opening shown count =
 abbrev pub head : Shown → (count : ℕ) → List ℕ
 head shown count = opening shown count ++ flat_map (lane_ground shown count) (lanes shown) ++ flat_map (tick shown count) (range_with_len 0 9)
 
+-- what is told of the directions of pass i, if there are any
+unfoldable pub directions_told : Option Directed → ℕ → List ℕ
+directions_told None i = []
+directions_told (Some s) i = codes ", directions " ++ (decimal (sweep_of s.sweeps i).begin ++ (codes " to " ++ decimal (sweep_of s.sweeps i).end))
+
 -- what is told of pass i where it is pointed at
 unfoldable pub tip : Shown → ℕ → List ℕ
 tip shown i =
     let p : Pass = nth shown.passes i in
     codes "<title>" ++ (slice_index_or shown.labels i [] ++ (codes ": begin " ++ (decimal p.from ++
-    (codes ", end " ++ (decimal p.to ++ (codes ", worth " ++ (decimal p.worth ++ (codes ", " ++ (lane_name (says shown.plan i) ++ codes "</title>")))))))))
+    (codes ", end " ++ (decimal p.to ++ (codes ", worth " ++ (decimal p.worth ++
+    (directions_told shown.directed i ++ (codes ", " ++ (lane_name (says shown.plan i) ++ codes "</title>"))))))))))
 
 -- what is written in the bar of pass i, its label and its worth; more letters than can be read count as 100
 unfoldable pub caption : Shown → (row i : ℕ) → List ℕ
@@ -62,7 +70,7 @@ look d = cond (d == 0) (codes "unfollowed") (codes "followed")
 -- pass i of the lane d, in a row: what is told of it, how its dish turns after it, its bar, and what is written in it
 unfoldable pub pass_group : Shown → (d row i : ℕ) → List ℕ
 pass_group shown d row i =
-    codes "<g class='" ++ look d ++ codes "'>" ++ tip shown i ++ rect (codes "tail") (tail_area shown d row (nth shown.passes i))
+    codes "<g class='" ++ look d ++ codes "'>" ++ tip shown i ++ rect (codes "tail") (tail_area shown row i)
     ++ rect (codes "bar") (bar_area shown row (nth shown.passes i))
     ++ caption shown row i
     ++ codes "</g>\n"

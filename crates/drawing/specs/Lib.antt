@@ -1,4 +1,5 @@
 pub mod Shown
+pub mod Turning
 pub mod Columns
 pub mod Padding
 pub mod Rows

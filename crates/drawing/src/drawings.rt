@@ -1,6 +1,6 @@
 ghost use Rattle.std.specs.Prelude.{◌≡◌, ℕ, ◌+◌, ◌<◌, ◌^◌, List, ◌++◌, IfOk, OnOk, string_bytes, length, slice_index};
 ghost use Rattle.std.specs.List.{flat_map, range_with_len};
-ghost use Rattle.drawing.specs.Drawings.{lane_ground, tick, opening, head, tip, caption, look, pass_group, pass_drawn, svg_text};
+ghost use Rattle.drawing.specs.Drawings.{lane_ground, tick, opening, head, directions_told, tip, caption, look, pass_group, pass_drawn, svg_text};
 ghost use Rattle.drawing.specs.Levels.{LevelsFor};
 ghost use Rattle.drawing.specs.Shown.{LanesThere, shown_of, view};
 ghost use Rattle.drawing.specs.Lanes.{lanes};
@@ -13,6 +13,7 @@ use crate::levels::Levels;
 use crate::picture::Picture;
 use crate::places::{BAR_HEIGHT, LANE_GAP, LEFT, TIME_WIDTH, WIDTH, is_upright, size_for};
 use crate::shown::picture_of;
+use slewing::Sweep;
 use std::alloc::{AllocError, Global};
 use std::fmt::Write;
 use text::Planned;
@@ -248,7 +249,7 @@ impl Picture<'_> {
         let pass = self.passes[place];
         write!(out, "<g class='{}'>", look(lane))?;
         self.push_tip(alloc, out, place)?;
-        push_rect(out, "tail", self.tail_area(lane, row, pass))?;
+        push_rect(out, "tail", self.tail_area(row, place))?;
         push_rect(out, "bar", self.bar_area(row, pass))?;
         self.push_caption(alloc, out, row, place)?;
         out.push_str("</g>\n")
@@ -264,10 +265,24 @@ impl Picture<'_> {
         let (from, to, worth) = (pass.from, pass.to, pass.worth);
         let label = self.label(place);
         let name = lane_name(alloc, self.plan[place])?;
-        write!(
-            out,
-            "<title>{label}: begin {from}, end {to}, worth {worth}, {name}</title>"
-        )
+        write!(out, "<title>{label}: begin {from}, end {to}, worth {worth}")?;
+        self.push_directions(out, place)?;
+        write!(out, ", {name}</title>")
+    }
+
+    // Writes what is told of the directions of a pass, if it has any.
+    #[tactic(auto, unfolding(crate::specs::Drawings::directions_told))]
+    fn push_directions(&self, out: &mut String, place: usize) -> Result<(), AllocError>
+        requires { place < length self.now.passes.now }
+        ensures { OnOk result (string_bytes out.new ≡ string_bytes out.old ++ directions_told (view self.now).directed place) }
+    {
+        match &self.slewing {
+            None => Ok(()),
+            Some(slewing) => {
+                let Sweep { begin, end } = slewing.sweeps()[place];
+                write!(out, ", directions {begin} to {end}")
+            }
+        }
     }
 
     // Writes what stands in the bar of a pass.

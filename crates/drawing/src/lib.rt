@@ -14,6 +14,7 @@ mod rows;
 mod scale;
 mod shown;
 mod timelines;
+mod turning;
 
 pub use drawings::svg;
 pub use timelines::timeline;

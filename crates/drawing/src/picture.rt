@@ -1,13 +1,16 @@
 ghost use Rattle.std.specs.Prelude.{◌≡◌, true, ◌<◌, ◌≤◌, [], length, map, slice_index_or, string_bytes};
 ghost use Rattle.passes.specs.Checks.{max_passes, all_in_range};
+ghost use Rattle.slewing.specs.Slewings.{each_directed};
 
 use passes::{Pass, Station};
+use slewing::Slewing;
 
-// What a picture shows: a station, passes with a label each, and a plan of who follows them, with its worth.
+// What a picture shows: a station, passes with a label each and maybe with directions, and a plan of who follows them, with its worth.
 #[derive(Drop)]
 pub(crate) struct Picture<'a> {
     pub(crate) labels: &'a [String],
     pub(crate) passes: &'a [Pass],
+    pub(crate) slewing: Option<Slewing>,
     pub(crate) plan: &'a [u8],
     pub(crate) station: Station,
     pub(crate) worth: u64,
@@ -15,6 +18,7 @@ pub(crate) struct Picture<'a> {
     ghost few: { length passes.now ≤ max_passes },
     ghost planned: { length plan.now ≡ length passes.now },
     ghost labelled: { length labels.now ≡ length passes.now },
+    ghost directed: { each_directed (length passes.now) slewing ≡ true },
 }
 
 impl Picture<'_> {

@@ -1,4 +1,4 @@
-ghost use Rattle.std.specs.Prelude.{◌≡◌, ◌+◌, ◌<◌, ◌≤◌, ◌^◌};
+ghost use Rattle.std.specs.Prelude.{◌≡◌, ◌+◌, ◌<◌, ◌≤◌, ◌^◌, length};
 ghost use Rattle.drawing.specs.Areas.{drawn_scale, x_of, row_of, top_of, height_of, ground_area, bar_area, tail_area, is_upright, size_for};
 ghost use Rattle.drawing.specs.Shown.{view};
 
@@ -100,7 +100,7 @@ impl Picture<'_> {
 
     // Where a second stands from left to right.
     fn x_of(&self, second: u64) -> u64
-        requires { second < 2 ^ 34 }
+        requires { second < 2 ^ 40 }
         ensures value { result ≡ x_of (view self.now) second }
         ensures small { result ≤ 1570 }
     {
@@ -161,13 +161,14 @@ impl Picture<'_> {
     }
 
     // What its dish needs to turn after it.
-    pub(crate) fn tail_area(&self, lane: u8, row: u64, pass: Pass) -> Area
-        requires { row < 2 ^ 16 }
-        ensures { result ≡ tail_area (view self.now) lane row pass }
+    pub(crate) fn tail_area(&self, row: u64, place: usize) -> Area
+        requires low { row < 2 ^ 16 }
+        requires within { place < length self.now.passes.now }
+        ensures { result ≡ tail_area (view self.now) row place }
     {
-        let to = pass.to as u64;
+        let to = self.passes[place].to as u64;
         let x = self.x_of(to);
-        let turned = self.x_of(to + self.turning(lane));
+        let turned = self.x_of(to + self.turning_after(place));
         Area {
             x,
             y: top_of(row) + BAR_TOP,

@@ -1,8 +1,9 @@
 ghost use Rattle.std.specs.Prelude.{◌≡◌, ◌+◌, ◌<◌, ◌≤◌, ◌^◌, ◌++◌, All, IfOk, OnOk, string_bytes, length};
 ghost use Rattle.passes.specs.Rule.{nth};
 ghost use Rattle.drawing.specs.Columns.{columns, scale_of};
-ghost use Rattle.drawing.specs.Rows.{letter, in_lane, turning, bar_from, over, cell, bars_of, row};
+ghost use Rattle.drawing.specs.Rows.{letter, in_lane, bar_from, over, cell, bars_of, row};
 ghost use Rattle.drawing.specs.Shown.{view};
+ghost use Rattle.drawing.specs.Turning.{turning_after};
 
 use crate::bars::Bar;
 use crate::padding::push_byte;
@@ -68,31 +69,18 @@ impl Picture<'_> {
         self.plan.iter().filter(|number| **number == lane).count()
     }
 
-    // The seconds that a dish turns after a pass in this lane.
-    #[tactic(auto, using(std::proofs::lemmas::Bool::Decides::nat_tests), unfolding(crate::specs::Rows::turning))]
-    pub(crate) fn turning(&self, lane: u8) -> u64
-        ensures value { result ≡ turning lane self.now.station.turn }
-        ensures small { result < 2 ^ 32 }
-    {
-        if lane == 0 {
-            0
-        } else {
-            self.station.turn as u64
-        }
-    }
-
-    // The bar of a pass in a lane, from a column.
+    // The bar of a pass, from a column.
     #[tactic(auto, using(std::proofs::lemmas::Bool::Decides::nat_tests), unfolding(crate::specs::Rows::bar_from))]
-    fn bar_from(&self, lane: u8, place: usize, begin: usize) -> Bar
+    fn bar_from(&self, place: usize, begin: usize) -> Bar
         requires within { place < length self.now.passes.now }
         requires free { begin < columns }
-        ensures value { result ≡ bar_from self.now.station.turn (scale_of self.now.passes.now) lane place begin (nth self.now.passes.now place) }
+        ensures value { result ≡ bar_from (turning_after (view self.now) place) (scale_of self.now.passes.now) place begin (nth self.now.passes.now place) }
         ensures ascii { result.letter < 128 }
     {
         let scale = Scale::of(self.passes);
         let to = self.passes[place].to as u64;
         let end = scale.place(COLUMNS as u64, to) as usize;
-        let turned = scale.place(COLUMNS as u64, to + self.turning(lane)) as usize;
+        let turned = scale.place(COLUMNS as u64, to + self.turning_after(place)) as usize;
         Bar {
             letter: letter(place),
             begin,
@@ -115,7 +103,7 @@ impl Picture<'_> {
             if self.plan[place] == lane {
                 let column = scale.place(COLUMNS as u64, self.passes[place].from as u64) as usize;
                 let begin = column.max(free).min(COLUMNS - left);
-                bars.push(self.bar_from(lane, place, begin))?;
+                bars.push(self.bar_from(place, begin))?;
                 free = begin + 1;
                 left -= 1;
             }

@@ -27,7 +27,7 @@ impl Scale {
     // Where a second stands among `places` from left to right.
     pub(crate) fn place(self, places: u64, second: u64) -> u64
         requires few { places < 2 ^ 16 }
-        requires low { second < 2 ^ 34 }
+        requires low { second < 2 ^ 40 }
         ensures { result ≡ place_on places self second }
     {
         let seconds = self.last.saturating_sub(self.first).max(1);

@@ -12,10 +12,12 @@ pub(crate) fn picture_of<'a>(planned: &'a Planned, labels: &'a [String]) -> Pict
     requires { map string_bytes labels.now ≡ labels_of (names_of planned.now.night) (passes_of planned.now.night.night) }
     ensures { view result ≡ shown_of planned.now }
 {
-    let night = planned.night().night();
+    let named = planned.night();
+    let night = named.night();
     Picture {
         labels,
         passes: night.passes(),
+        slewing: named.slewing(),
         plan: planned.plan(),
         station: night.station(),
         worth: planned.worth(),

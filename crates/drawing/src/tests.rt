@@ -129,3 +129,58 @@ fn as_many_as_there_may_be(rt: HostRuntime) -> Result<(), Fail> {
     assert_eq!(rt; lines.next(), Some(others));
     Ok(())
 }
+
+// One dish follows the first and the last pass: it turns for 4 seconds, and 16 more for 8 steps, so that it is there just in time.
+const DIRECTED: &str = "dishes 1 turn 4 step 2
+pass a 0 20 worth 5 dishes 0 directions 16 12
+pass b 30 40 worth 3 dishes 0 directions 60 60
+pass c 40 64 worth 9 dishes 0 directions 20 8
+";
+
+const DIRECTED_DRAWN: &str = "worth 14, dishes 1, turn 4, step 2, passes 3
+              0                               32                            64
+dish 0       |aaaaaaaaaaaaaaaaaaaa....................cccccccccccccccccccccccc|
+not followed |                              bbbbbbbbbb                        |
+
+  name  begin     end   worth
+a a         0      20       5  dish 0
+b b        30      40       3  not followed
+c c        40      64       9  dish 0
+";
+
+// 68 seconds on 1440: from 0 to 20, and the dish turns up to 40.
+const DIRECTED_GROUP: &str =
+    "<g class='followed'><title>a: begin 0, end 20, worth 5, directions 16 to 12, dish 0</title><rect class='tail' x='553' y='95' width='424' height='130'/><rect class='bar' x='130' y='95' width='423' height='130'/><text class='mid' font-size='16' transform='translate(341 160) rotate(0)' dy='.35em'>a (5)</text></g>";
+
+// How the line with a drawing's heading ends.
+const DIRECTED_HEADING: &str = ">worth 14, dishes 1, turn 4, step 2, passes 3</text>";
+
+// The list with directions, planned.
+fn directed(alloc: Global) -> Result<Planned, Fail> {
+    let named = NamedNight::read(alloc, DIRECTED.as_bytes())
+        .ok()
+        .ok_or("the list is taken")?;
+    Ok(named.plan(alloc)?)
+}
+
+#[test]
+fn directed_timeline(rt: HostRuntime) -> Result<(), Fail> {
+    let night = directed(rt.alloc())?;
+    let drawn = timeline(rt.alloc(), &night)?;
+    assert_eq!(rt; drawn.as_str(), DIRECTED_DRAWN);
+    Ok(())
+}
+
+#[test]
+fn directed_drawing(rt: HostRuntime) -> Result<(), Fail> {
+    let night = directed(rt.alloc())?;
+    let drawing = svg(rt.alloc(), &night)?;
+    assert!(rt;
+        drawing
+            .as_str()
+            .lines()
+            .any(|line| line.ends_with(DIRECTED_HEADING))
+    );
+    assert!(rt; drawing.as_str().lines().any(|line| line == DIRECTED_GROUP));
+    Ok(())
+}

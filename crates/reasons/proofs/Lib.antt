@@ -1,5 +1,7 @@
 pub mod Lengths
 pub mod Places
+pub mod Steady
+pub mod Agreeing
 pub mod Asked
 pub mod Joining
 pub mod OneByOne

@@ -1,3 +1,4 @@
 pub mod Others
+pub mod Following
 pub mod TrueReasons
 pub mod Words

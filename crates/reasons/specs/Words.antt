@@ -5,7 +5,7 @@ use Rattle.std.specs.Fmt.{decimal}
 use Rattle.text.specs.declared.planned.Planned.{Planned}
 use Rattle.text.specs.PlanText.{plan_text}
 use Rattle.reasons.specs.declared.reason.Reason.{Reason}
-use Rattle.reasons.specs.declared.reason.Reason.TheVariants.{Followed, AsWell, Needs, NoDish}
+use Rattle.reasons.specs.declared.reason.Reason.TheVariants.{Followed, WorthNothing, AsWell, Needs, NoDish}
 use Rattle.reasons.specs.Others.{called}
 
 -- labels behind the first: the last one behind `and`, those before it behind a comma
@@ -38,6 +38,7 @@ change_words goes comes = change (codes ", and ") (codes " would go") goes ++ ch
 -- why a pass is followed or let go, where the plan is worth `total`
 unfoldable pub words : (total : ℕ) → Reason → List ℕ
 words total (Followed spare) = spare_words spare
+words total WorthNothing = codes "followed; it is worth nothing, so it could not be worth less"
 words total AsWell = codes "not followed; it could as well have been followed: another plan is worth as much"
 words total (Needs worth needed with goes comes) = worth_words worth needed with total ++ change_words (map string_bytes goes.items) (map string_bytes comes.items)
 words total NoDish = codes "not followed; no dish here can follow it"

@@ -1,3 +1,6 @@
+ghost use Rattle.std.specs.Prelude.{◌≡◌};
+ghost use Rattle.reasons.specs.Following.{followed_reason};
+
 // Why the plan follows a pass, or lets it go.
 #[derive(Drop)]
 pub enum Reason {
@@ -5,6 +8,8 @@ pub enum Reason {
     Followed {
         spare: u32,
     },
+    // The plan follows it, and it is worth nothing.
+    WorthNothing,
     // The plan doesn't follow it, and another best plan does.
     AsWell,
     // No best plan follows it. For one to do so it would have to be worth `needed`. Of the plans that follow it a best one is worth `with`, lets these passes go
@@ -18,4 +23,17 @@ pub enum Reason {
     },
     // No good plan can follow it, whatever it is worth.
     NoDish,
+}
+
+impl Reason {
+    // Why a plan follows a pass that is worth so much, and so much more than it needs.
+    pub(crate) fn followed(worth: u32, spare: u32) -> Reason
+        ensures { result ≡ followed_reason worth spare }
+    {
+        if worth == 0 {
+            Reason::WorthNothing
+        } else {
+            Reason::Followed { spare }
+        }
+    }
 }

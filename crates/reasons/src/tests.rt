@@ -66,3 +66,28 @@ fifth: followed; it could be worth 7 less
     );
     Ok(())
 }
+
+// One dish, which couldn't come from the first pass to the third, but goes round with the second; and one pass that is too far.
+const ROUND: &str = "dishes 1 turn 0 step 4
+pass first 0 10 worth 5 dishes 0 directions 0 0
+pass round 10 11 worth 0 dishes 0 directions 0 32
+pass third 11 20 worth 6 dishes 0 directions 32 32
+pass far 30 40 worth 7 dishes 0 directions 40 40
+";
+
+#[test]
+fn by_directions(rt: HostRuntime) -> Result<(), Fail> {
+    let text = explained(&rt, ROUND)?;
+    assert_eq!(rt;
+        text.as_str(),
+        "worth 11
+dish 0: first round third
+not followed: far
+first: followed; it could be worth 4 less
+round: followed; it is worth nothing, so it could not be worth less
+third: followed; it could be worth 4 less
+far: not followed; it is worth 7 and would have to be worth 11; with it the night is worth 7 instead of 11, and first, round and third would go
+"
+    );
+    Ok(())
+}

@@ -35,6 +35,10 @@ impl Reason {
                 "followed; it could not be worth less: a plan without it is worth as much"
             ),
             Reason::Followed { spare } => write!(text, "followed; it could be worth {spare} less"),
+            Reason::WorthNothing => write!(
+                text,
+                "followed; it is worth nothing, so it could not be worth less"
+            ),
             Reason::AsWell => write!(
                 text,
                 "not followed; it could as well have been followed: another plan is worth as much"

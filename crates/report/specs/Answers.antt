@@ -6,7 +6,7 @@ use Rattle.drawing.specs.Shown.{shown_of, LanesThere}
 use Rattle.drawing.specs.Timelines.{timeline_text, LettersInTheirRows, LinesFit}
 use Rattle.drawing.specs.Within.{InTheirLanes}
 use Rattle.passes.specs.Nights.{passes_of}
-use Rattle.passes.specs.Plans.{Best}
+use Rattle.planner.specs.Ruled.{BestBy}
 use Rattle.reasons.specs.declared.reason.Reason.{Reason}
 use Rattle.reasons.specs.TrueReasons.{AllTrue}
 use Rattle.reasons.specs.Words.{reasons_text}
@@ -17,7 +17,7 @@ use Rattle.report.specs.declared.answers.View.TheVariants.{Plan, Timeline, Svg, 
 use Rattle.text.specs.declared.faults.TurnedAway.{TurnedAway}
 use Rattle.text.specs.declared.nights.NamedNight.{NamedNight}
 use Rattle.text.specs.declared.planned.Planned.{Planned}
-use Rattle.text.specs.Lists.{list_of}
+use Rattle.text.specs.Lists.{list_of, good_of}
 use Rattle.text.specs.Messages.{refusal_line}
 use Rattle.text.specs.PlanText.{plan_text}
 use Rattle.text.specs.Reading.{read_text}
@@ -51,11 +51,11 @@ Shows Timeline p bytes = IsTimeline p bytes
 Shows Svg p bytes = IsDrawing p bytes
 Shows Why p bytes = IsExplained p bytes
 
--- the bytes show a best plan for a night so
+-- the bytes show a best plan for a night so: a good one, by the night's directions if it has any, of which none is worth more
 pub record ShowsBest (view : View) (night : NamedNight) (bytes : List ℕ) : Type 0 where
   pub planned : Planned
   pub same : planned.night ≡ night
-  pub best : Best night.night.station (passes_of night.night) planned.plan.items
+  pub best : BestBy (good_of night) (passes_of night.night) planned.plan.items planned.worth
   pub shows : Shows view planned bytes
 
 -- THE PROMISE OF THE PROGRAM. What is answered shows a best plan for the list that the text stands for; or the text stands for none, and it says why

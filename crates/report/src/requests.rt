@@ -15,6 +15,9 @@ FILE, or else standard input, is a list as text, one thing to a line:
     dishes 2 turn 3                        1 to 4 dishes, seconds to turn
     pass hermes 0 10 worth 5 dishes 0 1    name, begin, end, worth, its dishes
     # a comment                            says nothing, nor does a blank line
+Dishes that turn by directions, 0 to 63 around, so many seconds for a step:
+    dishes 2 turn 3 step 4
+    pass hermes 0 10 worth 5 dishes 0 1 directions 12 40    its begin and end
 Passes come in order of begin, at most 48, up to second and worth 1000000.
 Dishes count from 0. A name is 1 to 32 letters, digits, - _ or .
 

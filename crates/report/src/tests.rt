@@ -28,6 +28,15 @@ fn answers(rt: HostRuntime) -> Result<(), Fail> {
         why.as_str(),
         "worth 2\ndish 0: a\nnot followed:\na: followed; it could be worth 2 less\n"
     );
+    // the second pass begins half the circle away from where the first one ends
+    let turned = "dishes 1 turn 0 step 1
+pass a 0 9 worth 2 dishes 0 directions 0 0
+pass b 40 50 worth 3 dishes 0 directions 32 0
+";
+    let Answer::Planned(plan) = respond(rt.alloc(), View::Plan, turned.as_bytes())? else {
+        return Err(Fail::from("the list was turned away"));
+    };
+    assert_eq!(rt; plan.as_str(), "worth 3\ndish 0: b\nnot followed: a\n");
     let Answer::TurnedAway(line) = respond(rt.alloc(), View::Svg, b"")? else {
         return Err(Fail::from("a text without a list was taken"));
     };

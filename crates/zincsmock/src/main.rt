@@ -6,7 +6,7 @@ use std::io::Read;
 use std::process::ExitCode;
 use std::{env, fs, io};
 
-const VERSION: &str = "zincsmock 0.7.0";
+const VERSION: &str = "zincsmock 0.8.0";
 
 // How the process ends where it was called for nothing that it does.
 const MISUSED: u8 = 2;

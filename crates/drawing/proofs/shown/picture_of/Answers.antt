@@ -18,4 +18,5 @@ invariant_of-result c =
       few = rw passes (few_passes p);
       planned = rw (plan, passes) (one_each p);
       labelled = rw passes (labels ∙ labels_each p);
+      directed = rw (passes, c.slewing.ensures, c.night-named.ensures) p.night.directed;
     }

@@ -1,26 +1,6 @@
-use Rattle.std.proofs.Common.{◌≡◌, [], ◌∷◌, ◌++◌, map, drop, length, string_bytes, ap, ◌∙◌, rules, arith}
-use Rattle.std.proofs.lemmas.List.{take_at, length-append}
-use Rattle.reasons.specs.Others.{called}
-use Rattle.reasons.specs.TrueReasons.{TrueReason}
-use Rattle.reasons.proofs.Lengths.{labels_long}
-use Rattle.reasons.proofs.OneByOne.{each_more}
+use Rattle.std.proofs.Common.{◌∙◌, sym, rules}
+use Rattle.reasons.proofs.Agreeing.{plain_agrees}
 use Rattle.reasons.proofs.explaining.reasons_of.Goals as goal
 
-pub invariant_of-asking : goal.invariant_of-asking
-invariant_of-asking c =
-    let p = c.args.planned.now in
-    let labelled : map string_bytes c.deref.result.now ≡ called p = search rules in
-    record { same = search rules; labelled = labelled; one_each = labels_long p c.deref.result.now labelled }
-
-pub loop-place-preserved : goal.loop-place-preserved
-loop-place-preserved c =
-    let before = c.loop-place.reasons.items in
-    let now : c.push.new.self.items ≡ before ++ c.in_ok-reason.field-0 ∷ [] = search rules in
-    let kept = take_at c.reason.new.room (drop (length c.reason.new.room) c.loop-place.room.items) c.loop-place.room.len (search rules) in
-    record {
-      so_far = rw (now, length-append) (omega (arith, c.loop-place.invariant.so_far));
-      each =
-          rw now (each_more (TrueReason c.args.planned.now) before c.in_ok-reason.field-0 c.loop-place.invariant.each
-          (rw c.loop-place.invariant.so_far c.in_ok-reason.ensures));
-      room = ap length kept ∙ c.reason.auto.room ∙ ap length c.deref_mut.ensures.value ∙ c.loop-place.invariant.room;
-    }
+pub reasons_by-requires-clause-agrees : goal.reasons_by-requires-clause-agrees
+reasons_by-requires-clause-agrees c = plain_agrees c.args.planned.now.night (search rules)

@@ -7,7 +7,7 @@ use Rattle.reasons.proofs.asking.Asking.others_in.Goals as goal
 use Rattle.reasons.proofs.asking.Asking.others_in.Goals.{then-k-place+then-plan-k-gt0+then-other-k-eq0+in_ok-from_str+in_ok-push, else-k-place, else-k-place-via-then-k-place+then-plan-k-gt0+else-other-k-eq0, else-k-place-via-then-k-place+else-plan-k-gt0, else-k-place-via-else-k-place}
 
 pub loop-k-preserved : goal.loop-k-preserved
-loop-k-preserved c =
+loop-k-preserved g c =
     let a = c.args.self.now in
     let ls = called a.planned.now in
     let p = is_other c.args.place c.args.plan.now c.args.other.now in

@@ -1,9 +1,10 @@
 use Rattle.std.proofs.Common.{◌≡◌, Ok, Err, Result, String, string_bytes, rules}
 use Rattle.std.specs.Prelude.{IfOk}
 use Rattle.passes.specs.Nights.{passes_of}
-use Rattle.passes.specs.Plans.{Best}
+use Rattle.planner.specs.Ruled.{BestBy}
 use Rattle.text.specs.declared.nights.NamedNight.{NamedNight}
 use Rattle.text.specs.declared.planned.Planned.{Planned}
+use Rattle.text.specs.Lists.{good_of}
 use Rattle.report.specs.declared.answers.View.{View}
 use Rattle.report.specs.Answers.{Shows, ShowsBest}
 use Rattle.report.proofs.answers.View.show.Goals as goal
@@ -11,7 +12,7 @@ use Rattle.report.proofs.answers.View.show.Goals as goal
 -- what shows a best plan for the night is what was asked for
 shown :
     {Z E : Type 0} (view : View) (night : NamedNight) (p : Planned) (r : Result (String Z) E) → p.night ≡ night →
-    Best night.night.station (passes_of night.night) p.plan.items → IfOk r (λ t. Shows view p (string_bytes t)) → IfOk r (λ t. ShowsBest view night (string_bytes t))
+    BestBy (good_of night) (passes_of night.night) p.plan.items p.worth → IfOk r (λ t. Shows view p (string_bytes t)) → IfOk r (λ t. ShowsBest view night (string_bytes t))
 shown view night p (Ok t) same best shows = record { planned = p; same = same; best = best; shows = shows }
 shown view night p (Err e) same best shows = shows
 
