@@ -3,3 +3,4 @@ pub mod Fronts
 pub mod Middles
 pub mod Plainly
 pub mod Sorting
+pub mod Crossing

@@ -1,12 +1,13 @@
-// Counts the states that the search visits for lists of many shapes, and compares it with the plain search on their fronts.
+// Counts the states that the search visits for lists of many shapes, with directions for some, and compares it with the plain search on their fronts.
 #![tactic(auto)]
 
-ghost use Rattle.std.specs.Prelude.{◌≡◌, ◌<◌, IfOk, All, length, vec_len};
+ghost use Rattle.std.specs.Prelude.{◌≡◌, ◌<◌, ◌≤◌, IfOk, All, length, vec_len};
 ghost use Rattle.effort.specs.declared.TheConstants.{LISTS};
 ghost use Rattle.effort.specs.Comparisons.{CaseOf, ComparedIn};
 
 mod cases;
 mod comparing;
+mod directions;
 mod searching;
 mod shapes;
 mod spread;
@@ -14,6 +15,7 @@ mod times;
 
 use cases::Case;
 use comparing::{Comparison, Score, compare};
+use directions::visits_with;
 use searching::plan_by_planner;
 use shapes::Shape;
 use spread::Spread;
@@ -43,6 +45,13 @@ const SHAPES: [Shape; 15] = [
     Shape::WorthsByLength,
     Shape::NoTurning,
     Shape::HugeTurning,
+];
+
+// The shapes that are planned with directions too, and how many seconds a step takes. Dense lists at 8 seconds would take several seconds of a run.
+const DIRECTED: [(Shape, u64); 3] = [
+    (Shape::Ordinary, 2),
+    (Shape::Ordinary, 8),
+    (Shape::Dense, 2),
 ];
 
 // The lists of a shape.
@@ -80,6 +89,15 @@ fn compare_all(alloc: Global, cases: &[Case]) -> Result<Vec<Comparison>, AllocEr
     Ok(comparisons)
 }
 
+// Prints how many states are visited for the lists of a shape with directions, where a step takes so many seconds.
+fn print_directed(rt: &HostRuntime, shape: Shape, step: u64) -> io::Result<()>
+    requires { step ≤ 1000 }
+{
+    let cases = lists_of(rt.alloc(), shape)?;
+    let spread = Spread::of(visits_with(rt.alloc(), cases.as_slice(), step)?).unwrap();
+    println!(rt; "{shape} with directions, {step} seconds for a step: visited {spread}")
+}
+
 fn main(rt: HostRuntime) -> io::Result<()> {
     let with_times = env::args(&rt)?.skip(1).any(|arg| arg.as_str() == "times");
     let mut comparisons = Vec::new(rt.alloc());
@@ -94,5 +112,9 @@ fn main(rt: HostRuntime) -> io::Result<()> {
         let compared = compare_all(rt.alloc(), cases.as_slice())?;
         comparisons.extend_from_slice(compared.as_slice())?;
     }
-    println!(rt; "{}", Score::of(comparisons.as_slice()))
+    println!(rt; "{}", Score::of(comparisons.as_slice()))?;
+    for (shape, step) in DIRECTED {
+        print_directed(&rt, shape, step)?;
+    }
+    Ok(())
 }

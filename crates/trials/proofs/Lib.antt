@@ -1,6 +1,9 @@
 pub mod Numbering
 pub mod Growing
 pub mod Comparing
+pub mod Choosing
+pub mod Looking
 pub mod Varied
 pub mod Following
 pub mod Asking
+pub mod Headed

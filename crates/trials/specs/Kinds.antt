@@ -3,7 +3,7 @@ use Rattle.std.specs.Prelude.{◌≡◌, ℕ, zero, suc, ◌-◌, ◌*◌, ◌%�
 use Rattle.passes.specs.declared.model.Pass.{Pass}
 use Rattle.passes.specs.Numbers.{pass_at, begun}
 use Rattle.trials.specs.declared.kinds.Kind.{Kind}
-use Rattle.trials.specs.declared.kinds.Kind.TheVariants.{NoPasses, NoTurning, LargeTurning, EqualBegins, Touching, OneDishHears, UnfitMarks}
+use Rattle.trials.specs.declared.kinds.Kind.TheVariants.{NoPasses, NoTurning, LargeTurning, EqualBegins, Touching, OneDishHears, UnfitMarks, SecondsApart, HoursApart}
 
 -- how many passes a list of the kind may have: none for `NoPasses`, else at least one
 abbrev pub CountOf : Kind → ℕ → Type 0
@@ -21,6 +21,8 @@ TurnOf _ t = ⊤
 abbrev pub TimesOf : Kind → (step length : ℕ) → Type 0
 TimesOf EqualBegins step length = step ≤ 1
 TimesOf Touching step length = (step ≤ 10) × (step % 10 ≡ 0) × (length ≤ 20) × (length % 10 ≡ 0)
+TimesOf SecondsApart step length = (step ≤ 30) × (length ≤ 20)
+TimesOf HoursApart step length = (step ≤ 7200) × (length ≤ 1200)
 TimesOf _ step length = ⊤
 
 -- which marks pass i may have, where there are k dishes: of one that is there; or, for every second pass, of none that is

@@ -1,4 +1,7 @@
+pub mod Headings
 pub mod Kinds
+pub mod Looking
 pub mod Needs
 pub mod Numbered
 pub mod Trials
+pub mod Ways

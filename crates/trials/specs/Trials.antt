@@ -4,11 +4,12 @@ use Rattle.passes.specs.declared.model.Pass.{Pass}
 use Rattle.passes.specs.declared.model.Station.{Station}
 use Rattle.passes.specs.Nights.{station_of}
 use Rattle.passes.specs.Numbers.{passes_in}
-use Rattle.passes.specs.Plans.{Plan, worth_of, Best}
+use Rattle.passes.specs.Plans.{Plan, worth_of, fits}
 use Rattle.passes.specs.Refusals.{refused, refused_with_room}
 use Rattle.planner.specs.declared.planning.Done.{Done}
 use Rattle.planner.specs.declared.planning.Done.TheVariants.{Planned}
 use Rattle.planner.specs.Answers.{DoneSays}
+use Rattle.sensitivity.specs.Needing.{BestOf}
 use Rattle.trials.specs.declared.kinds.Kind.{Kind}
 use Rattle.trials.specs.declared.kinds.TheConstants.{TRIED_PASSES}
 use Rattle.trials.specs.declared.trying.Trial.{Trial}
@@ -16,15 +17,15 @@ use Rattle.trials.specs.declared.trying.Trial.TheVariants.{AllFollowed, SomeLetG
 use Rattle.trials.specs.Kinds.{ListOf}
 use Rattle.trials.specs.Numbered.{plans_of}
 
--- a best plan was left, and its worth was answered
-abbrev pub Right : Station → List Pass → Done → Plan → Type 0
-Right s ps done ds = Best s ps ds × (done ≡ Planned (worth_of ps ds))
+-- a best plan was left, and its worth was answered, where it is given which plans of a list are good
+abbrev pub Right : (good : List Pass → Plan → Bool) → List Pass → Done → Plan → Type 0
+Right good ps done ds = BestOf good ps ds × (done ≡ Planned (worth_of ps ds))
 
 -- what a trial says of an answer and a plan is true. That they don't match it says only where they aren't right, or there are too many plans to compare with
-abbrev pub TrueTrial : Station → List Pass → Done → Plan → Trial → Type 0
-TrueTrial s ps done ds AllFollowed = Right s ps done ds × (Contains ds 0 → ⊥)
-TrueTrial s ps done ds SomeLetGo = Right s ps done ds × Contains ds 0
-TrueTrial s ps done ds Mismatch = plans_of s ps < 2 ^ 64 → Right s ps done ds → ⊥
+abbrev pub TrueTrial : (good : List Pass → Plan → Bool) → Station → List Pass → Done → Plan → Trial → Type 0
+TrueTrial good s ps done ds AllFollowed = Right good ps done ds × (Contains ds 0 → ⊥)
+TrueTrial good s ps done ds SomeLetGo = Right good ps done ds × Contains ds 0
+TrueTrial good s ps done ds Mismatch = plans_of s ps < 2 ^ 64 → Right good ps done ds → ⊥
 
 -- what a trial says is true of an answer and a plan that planning may come to, for k dishes that take t seconds to turn, a list of numbers, and a room
 -- with a number for each pass
@@ -34,7 +35,7 @@ pub record Tried (k t : ℕ) (xs : List ℕ) (trial : Trial) : Type 0 where
   pub done : Done
   pub plan : Plan
   pub came : DoneSays (refused_with_room k t xs (length room)) (station_of k t) (passes_in xs) room done plan
-  pub says : TrueTrial (station_of k t) (passes_in xs) done plan trial
+  pub says : TrueTrial (fits (station_of k t)) (station_of k t) (passes_in xs) done plan trial
 
 -- what a trial says is true of some list of a kind, to which no refusal applies and of which all plans can be tried
 pub record TriedOf (kind : Kind) (trial : Trial) : Type 0 where

@@ -1,15 +1,15 @@
 // Whether some best plan follows a pass, by trying all plans.
-ghost use Rattle.std.specs.Prelude.{◌≡◌, ◌+◌, ◌^◌, ◌<◌, ◌≤◌, ◌==◌, ◌&&◌, Decides, IfOk, length};
+ghost use Rattle.std.specs.Prelude.{◌≡◌, ◌^◌, ◌<◌, ◌≤◌, Decides, IfOk, length};
 ghost use Rattle.passes.specs.Checks.{max_worth};
 ghost use Rattle.passes.specs.Nights.{passes_of, station_of};
 ghost use Rattle.passes.specs.Numbers.{passes_in};
-ghost use Rattle.passes.specs.Plans.{fits, worth_of, Best};
-ghost use Rattle.sensitivity.specs.Needing.{SomeBestFollows};
+ghost use Rattle.sensitivity.specs.Needing.{BestOf, SomeBestFollows};
 ghost use Rattle.trials.specs.Needs.{CanBeTried, FollowedAt};
-ghost use Rattle.trials.specs.Numbered.{plans_of};
+ghost use Rattle.trials.specs.Numbered.{good_of, plans_of};
 
 use crate::all_plans::{most_worth, write_plan};
 use crate::cases::Case;
+use crate::judges::Judge;
 use passes::Night;
 use std::alloc::{AllocError, Global};
 
@@ -28,36 +28,28 @@ pub fn is_followed_at(
     let varied = case.with_worth(alloc, place, worth)?;
     let night = Night::read(varied.dishes, varied.turn, varied.numbers.as_slice()).unwrap();
     let mut room = vec![in alloc; 0; night.passes().len()]?;
-    Ok(is_followed(&night, place, room.as_mut_slice()))
+    let judge = Judge {
+        night,
+        slewing: None,
+    };
+    Ok(is_followed(&judge, place, room.as_mut_slice()))
 }
 
-// Whether some best plan of a night follows pass `place`: each plan that names dishes that are there is written into the room and judged, until one that
-// follows the pass is worth as much as a best one.
-pub fn is_followed(night: &Night, place: usize, room: &mut [u8]) -> bool
-    requires one_each { length room.old ≡ length (passes_of night.now) }
-    requires within { place < length (passes_of night.now) }
-    requires few { plans_of night.now.station (passes_of night.now) < 2 ^ 64 }
-    ensures { Decides result (SomeBestFollows (Best night.now.station) (passes_of night.now) place) }
+// Whether some best plan, by what a judge goes by, follows pass `place`: each plan that names dishes that are there is written into the room and
+// judged, until one that follows the pass is worth as much as a best one.
+pub fn is_followed(judge: &Judge, place: usize, room: &mut [u8]) -> bool
+    requires one_each { length room.old ≡ length (passes_of judge.now.night) }
+    requires within { place < length (passes_of judge.now.night) }
+    requires few { plans_of judge.now.night.station (passes_of judge.now.night) < 2 ^ 64 }
+    ensures { Decides result (SomeBestFollows (BestOf (good_of judge.now)) (passes_of judge.now.night) place) }
 {
-    let most = most_worth(night, room).unwrap();
-    let base = night.station().dishes as u64 + 1;
+    let most = most_worth(judge, room).unwrap();
+    let base = judge.night.station().dishes as u64 + 1;
     for number in 0..base.pow(room.len() as u32) {
         write_plan(number, base, room);
-        if room[place] > 0 && is_good_for(night, room, most) {
+        if room[place] > 0 && judge.is_good_for(room, most) {
             return true;
         }
     }
     false
-}
-
-// Whether a plan is good and worth so much.
-#[tactic(auto, using(std::proofs::lemmas::Bool::Decides::nat_tests), unfolding(passes::specs::Refusals::room_refused))]
-fn is_good_for(night: &Night, plan: &[u8], worth: u64) -> bool
-    requires one_each { length plan.now ≡ length (passes_of night.now) }
-    ensures { result ≡ (fits night.now.station (passes_of night.now) plan.now && worth_of (passes_of night.now) plan.now == worth) }
-{
-    match night.judge(plan) {
-        Ok(Ok(judged)) => judged == worth,
-        Ok(Err(_)) | Err(_) => false,
-    }
 }

@@ -29,6 +29,10 @@ pub enum Kind {
     OneDishHears,
     // Every second pass has only marks of dishes that aren't there.
     UnfitMarks,
+    // Passes begin up to 30 seconds after the ones before them, and last up to 20.
+    SecondsApart,
+    // Passes begin up to two hours after the ones before them, and last up to 20 minutes.
+    HoursApart,
 }
 
 impl fmt::Display for Kind {
@@ -42,6 +46,8 @@ impl fmt::Display for Kind {
             Kind::Touching => "touching",
             Kind::OneDishHears => "one dish hears",
             Kind::UnfitMarks => "unfit marks",
+            Kind::SecondsApart => "seconds apart",
+            Kind::HoursApart => "hours apart",
         })
     }
 }
@@ -102,6 +108,8 @@ impl Kind {
         match self {
             Kind::LargeTurning => (rng.random_range(0..=100_000), rng.random_range(1..=100_000)),
             Kind::EqualBegins => (rng.random_range(0..=1), rng.random_range(1..=20)),
+            Kind::SecondsApart => (rng.random_range(0..=30), rng.random_range(1..=20)),
+            Kind::HoursApart => (rng.random_range(0..=7200), rng.random_range(1..=1200)),
             Kind::Touching => (10 * rng.random_range(0..=1), 10 * rng.random_range(1..=2)),
             _ => (rng.random_range(0..=10), rng.random_range(1..=20)),
         }

@@ -1,11 +1,12 @@
 // What comes of trying cases.
-ghost use Rattle.std.specs.Prelude.{◌≡◌, length, count_by, IfOk};
+ghost use Rattle.std.specs.Prelude.{◌≡◌, length, count_by, None, IfOk};
 ghost use Rattle.passes.specs.Nights.{NightOf, passes_of};
-ghost use Rattle.trials.specs.Numbered.{MostOfAll};
+ghost use Rattle.trials.specs.Numbered.{good_of, MostOfAll};
 ghost use Rattle.trials.specs.Trials.{TrueTrial, Tried, lets_go, is_mismatch};
 
 use crate::all_plans::most_worth;
 use crate::cases::Case;
+use crate::judges::Judge;
 use passes::Night;
 use planner::{Done, plan};
 use std::alloc::{AllocError, Global};
@@ -33,34 +34,36 @@ pub fn try_case(alloc: Global, case: &Case) -> Result<Trial, AllocError>
     // no dish has this number, so that a room that isn't written is found out
     let mut room = vec![in alloc; u8::MAX; count]?;
     let mut spare = vec![in alloc; 0; count]?;
-    Ok(try_night(case, &night, room.as_mut_slice(), spare.as_mut_slice()))
+    let judge = Judge {
+        night,
+        slewing: None,
+    };
+    Ok(try_night(case, &judge, room.as_mut_slice(), spare.as_mut_slice()))
 }
 
 // The same, for the night that was read from the case. The plan is made in the first room, and all plans in the other.
-fn try_night(case: &Case, night: &Night, room: &mut [u8], spare: &mut [u8]) -> Trial
-    requires read { NightOf case.now.dishes case.now.turn case.now.numbers.items night.now }
-    requires one_each { length room.old ≡ length (passes_of night.now) }
-    requires a_place_each { length spare.old ≡ length (passes_of night.now) }
+fn try_night(case: &Case, judge: &Judge, room: &mut [u8], spare: &mut [u8]) -> Trial
+    requires read { NightOf case.now.dishes case.now.turn case.now.numbers.items judge.now.night }
+    requires no_directions { judge.now.slewing ≡ None }
+    requires one_each { length room.old ≡ length (passes_of judge.now.night) }
+    requires a_place_each { length spare.old ≡ length (passes_of judge.now.night) }
     ensures { Tried case.now.dishes case.now.turn case.now.numbers.items result }
 {
     let done = plan(case.dishes, case.turn, case.numbers.as_slice(), room);
-    let most = most_worth(night, spare);
-    compare(night, done, room, most)
+    let most = most_worth(judge, spare);
+    compare(judge, done, room, most)
 }
 
 // Compares what was answered, and left in the room, with what a best plan is worth.
-#[tactic(auto, using(crate::proofs::Comparing::best_if_worth, crate::proofs::Comparing::worth_if_best))]
-fn compare(night: &Night, done: Done, room: &[u8], most: Option<u64>) -> Trial
-    requires { MostOfAll night.now.station (passes_of night.now) most }
-    ensures { TrueTrial night.now.station (passes_of night.now) done room.now result }
+pub fn compare(judge: &Judge, done: Done, room: &[u8], most: Option<u64>) -> Trial
+    requires one_each { length room.now ≡ length (passes_of judge.now.night) }
+    requires most { MostOfAll (good_of judge.now) judge.now.night.station (passes_of judge.now.night) most }
+    ensures { TrueTrial (good_of judge.now) judge.now.night.station (passes_of judge.now.night) done room.now result }
 {
     let (Some(most), Done::Planned(said)) = (most, done) else {
         return Trial::Mismatch;
     };
-    let Ok(Ok(worth)) = night.judge(room) else {
-        return Trial::Mismatch;
-    };
-    if said != most || worth != most {
+    if said != most || !judge.is_good_for(room, most) {
         Trial::Mismatch
     } else if room.contains(&0) {
         Trial::SomeLetGo

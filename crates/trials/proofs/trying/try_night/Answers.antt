@@ -9,5 +9,5 @@ returns c =
       done = c.plan-done.result;
       plan = c.plan-done.new.room;
       came = rw c.as_slice.ensures.value at c.plan-done.ensures;
-      says = rw (← night.same_station, ← night.same_passes) c.compare.ensures;
+      says = rw (← night.same_station, ← night.same_passes) (rw c.requires.no_directions at c.compare.ensures);
     }
