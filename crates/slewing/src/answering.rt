@@ -9,11 +9,11 @@ ghost use Rattle.planner.specs.Ruled.{BestBy};
 ghost use Rattle.slewing.specs.Refusals.{refused_slewing};
 ghost use Rattle.slewing.specs.Slewings.{sweeps_of, directed_of, good_for, refused_directed};
 
-use crate::following::Slews;
+use crate::following::{LastPasses, Slews};
 use crate::refusals::SlewRefusal;
 use crate::slewings::Slewing;
 use passes::Night;
-use planner::{Counted, Done, best_of_station, plan_taken};
+use planner::{Counted, Done, SeenState, best_of_station, plan_taken};
 
 // How many states the search remembers: more than without directions, since there are more of them.
 pub const SLEWING_PLACES: usize = 16_384;
@@ -52,15 +52,18 @@ pub fn try_plan_slewing(
 {
     let night = Night::read_for_room(dishes, turn, passes, room.len())?;
     let slewing = Slewing::read(&night, step, directions)?;
-    Ok(best_of_slewing(&night, &slewing, room))
+    let mut seen = [None; SLEWING_PLACES];
+    Ok(best_of_slewing(&night, &slewing, &mut seen, room))
 }
 
 // Leaves a best plan of a night that was taken already in the room and answers its worth: with directions, or without. Turned away are a room that isn't a
-// number for each pass, and then directions that aren't some for each pass.
-// Kept: the room stands beside the night, to be written.
+// number for each pass, and then directions that aren't some for each pass. What is left in the table `seen` means nothing, and neither does what it holds
+// before; with directions, the more places it has, the more the search leaves out, and without any it isn't looked at.
+// Kept: table and room stand beside the night, to be written.
 pub fn plan_directed(
     night: &Night,
     slewing: Option<Slewing>,
+    seen: &mut [SeenState<LastPasses>],
     room: &mut [u8],
 ) -> Result<u64, SlewRefusal>
     ensures refusal { result_err result ≡ refused_directed (length (passes_of night.now)) slewing (length room.old) }
@@ -74,19 +77,23 @@ pub fn plan_directed(
     if slewing.sweeps().len() != count {
         return Err(SlewRefusal::BadDirections(slewing.sweeps().len().min(count)));
     }
-    Ok(best_of_slewing(night, &slewing, room).worth)
+    Ok(best_of_slewing(night, &slewing, seen, room).worth)
 }
 
 // Leaves a best plan of a night with directions in a room that has a number for each pass, and answers its worth, and how many states the search visited.
-// Kept: the room stands beside the night, to be written.
-fn best_of_slewing(night: &Night, slewing: &Slewing, room: &mut [u8]) -> Counted
+// Kept: table and room stand beside the night, to be written.
+fn best_of_slewing(
+    night: &Night,
+    slewing: &Slewing,
+    seen: &mut [SeenState<LastPasses>],
+    room: &mut [u8],
+) -> Counted
     requires one_each { length room.old ≡ length (passes_of night.now) }
     requires directed { length (sweeps_of slewing.now) ≡ length (passes_of night.now) }
     ensures { BestSlewed night.now.station slewing.now.step (sweeps_of slewing.now) (passes_of night.now) room.new result.worth }
 {
     let rule = Slews::new(night, slewing);
-    let mut seen = [None; SLEWING_PLACES];
-    let gained = best_of_station(night.station(), night.passes(), rule, &mut seen, room);
+    let gained = best_of_station(night.station(), night.passes(), rule, seen, room);
     Counted {
         worth: gained.most.unwrap(),
         visited: gained.visited,

@@ -133,9 +133,12 @@ fn taken(rt: HostRuntime) -> Result<(), Fail> {
     let night = Night::read(2, 3, FIVE.as_flattened()).map_err(|_| "not read")?;
     let slewing = Slewing::read(&night, 1_000_000, AROUND.as_flattened()).map_err(|_| "not read")?;
     let mut room = [9; 5];
-    assert_eq!(rt; plan_directed(&night, None, &mut room), Ok(25));
-    assert_eq!(rt; plan_directed(&night, Some(slewing), &mut room), Ok(21));
-    let no_room = plan_directed(&night, Some(slewing), &mut room[..4]);
+    assert_eq!(rt; plan_directed(&night, None, &mut [], &mut room), Ok(25));
+    assert_eq!(rt;
+        plan_directed(&night, Some(slewing), &mut [None; 64], &mut room),
+        Ok(21)
+    );
+    let no_room = plan_directed(&night, Some(slewing), &mut [None; 64], &mut room[..4]);
     assert_eq!(rt; no_room, Err(SlewRefusal::Plain(Refusal::BadRoom(4))));
     Ok(())
 }
@@ -147,9 +150,9 @@ fn of_another_night(rt: HostRuntime) -> Result<(), Fail> {
     let shorter = Night::read(2, 3, &FIVE.as_flattened()[..16]).map_err(|_| "not read")?;
     let many = Slewing::read(&night, 1, AROUND.as_flattened()).map_err(|_| "not read")?;
     let few = Slewing::read(&shorter, 1, &AROUND.as_flattened()[..8]).map_err(|_| "not read")?;
-    let late = plan_directed(&shorter, Some(many), &mut [9; 4]);
+    let late = plan_directed(&shorter, Some(many), &mut [], &mut [9; 4]);
     assert_eq!(rt; late, Err(SlewRefusal::BadDirections(4)));
-    let early = plan_directed(&night, Some(few), &mut [9; 5]);
+    let early = plan_directed(&night, Some(few), &mut [], &mut [9; 5]);
     assert_eq!(rt; early, Err(SlewRefusal::BadDirections(4)));
     Ok(())
 }

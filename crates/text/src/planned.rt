@@ -5,7 +5,7 @@ ghost use Rattle.planner.specs.Ruled.{BestBy};
 ghost use Rattle.text.specs.Lists.{good_of};
 
 use crate::nights::NamedNight;
-use slewing::plan_directed;
+use slewing::{SLEWING_PLACES, plan_directed};
 use std::alloc::{AllocError, Global};
 
 // A night with a good plan for it, and what the plan is worth.
@@ -26,7 +26,12 @@ impl NamedNight {
         ensures best { IfOk result (λ p. BestBy (good_of self) (passes_of self.night) p.plan.items p.worth) }
     {
         let mut plan = vec![in alloc; 0; self.night.passes().len()]?;
-        let worth = plan_directed(&self.night, self.slewing, &mut plan).unwrap();
+        let places = match self.slewing {
+            Some(_) => SLEWING_PLACES,
+            None => 0,
+        };
+        let mut seen = vec![in alloc; None; places]?;
+        let worth = plan_directed(&self.night, self.slewing, &mut seen, &mut plan).unwrap();
         Ok(Planned {
             night: self,
             plan,

@@ -7,7 +7,7 @@ use Rattle.text.proofs.nights.NamedNight.plan.Goals as goal
 
 pub unwrap-worth-requires : goal.unwrap-worth-requires
 unwrap-worth-requires c =
-    let same : length c.deref_mut.result.now ≡ length (passes_of c.args.self.night) = search rules in
+    let same : length c.deref_mut-2.result.now ≡ length (passes_of c.args.self.night) = search rules in
     not_refused _ _ _ c.plan_directed.result same c.args.self.directed c.plan_directed.ensures.refusal
 
 pub invariant_of-result : goal.invariant_of-result
