@@ -27,7 +27,7 @@ unfoldable pub slewing_after : Option Directed → Plan → ℕ → ℕ
 slewing_after None ds i = 0
 slewing_after (Some s) ds i = to_next s.step (says ds i) (sweep_of s.sweeps i).end (drop (i + 1) s.sweeps) (drop (i + 1) ds)
 
--- what is drawn as turning after pass i: the station's turning time, and what its dish takes to the next pass beside it; nothing turns after a pass that
+-- what is drawn as turning after pass i: the station's turning time, and besides what its dish takes to the next pass; nothing turns after a pass that
 -- isn't followed
 unfoldable pub turning_after : Shown → ℕ → ℕ
 turning_after shown i = cond (says shown.plan i == 0) 0 (shown.station.turn + slewing_after shown.directed shown.plan i)

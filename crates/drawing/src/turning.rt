@@ -22,7 +22,7 @@ impl Picture<'_> {
         }
     }
 
-    // The seconds that its dish takes to the next pass that it follows, beside the station's turning time.
+    // The seconds that its dish takes to the next pass that it follows, besides the station's turning time.
     #[tactic(auto, unfolding(crate::specs::Turning::slewing_after))]
     fn slewing_after(&self, place: usize) -> u64
         requires { place < length self.now.passes.now }

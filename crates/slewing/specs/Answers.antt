@@ -1,5 +1,5 @@
 -- What planning with directions answers, and what it leaves. Assumes nothing: these are definitions.
-use Rattle.std.specs.Prelude.{◌≡◌, ℕ, List, Some, None, Option, Ok, Err, Result}
+use Rattle.std.specs.Prelude.{◌≡◌, ℕ, List, Some, None, Option}
 use Rattle.passes.specs.declared.model.Pass.{Pass}
 use Rattle.passes.specs.declared.model.Station.{Station}
 use Rattle.passes.specs.Plans.{Plan, worth_of}
@@ -14,11 +14,6 @@ use Rattle.slewing.specs.Slewed.{slewed}
 -- a best plan where dishes take k seconds for each step, and it is worth w: it is good, and no good one is worth more
 abbrev pub BestSlewed : Station → (k : ℕ) → List Sweep → List Pass → Plan → (w : ℕ) → Type 0
 BestSlewed s k vs ps ds w = BestBy (slewed s k vs) ps ds w
-
--- what the entry answers where this came of planning
-abbrev pub done_of : Result ℕ SlewRefusal → Done
-done_of (Ok worth) = Planned worth
-done_of (Err why) = Refused (number_of why)
 
 -- THE PROMISE. Where no refusal applies, the room holds a best plan, and its worth is answered; where one does, its number is answered, and the room is as
 -- it was

@@ -3,7 +3,7 @@ ghost use Rattle.std.specs.Prelude.{◌≡◌, length, option_map, MatchResult};
 ghost use Rattle.std.specs.Result.{result_err};
 ghost use Rattle.passes.specs.Nights.{passes_of, station_of};
 ghost use Rattle.passes.specs.Numbers.{passes_in};
-ghost use Rattle.slewing.specs.Answers.{BestSlewed, SlewingSays, done_of};
+ghost use Rattle.slewing.specs.Answers.{BestSlewed, SlewingSays};
 ghost use Rattle.slewing.specs.Numbers.{sweeps_in};
 ghost use Rattle.planner.specs.Ruled.{BestBy};
 ghost use Rattle.slewing.specs.Refusals.{refused_slewing};
