@@ -55,5 +55,5 @@ pub trait Problem: Decisions {
     }
 
     // What is asked of the order, and each impl proves.
-    ghost order_laws: { (x : Self) → OrderLaws (ahead x) };
+    ghost order_laws: { (x : Self) → Self.valid x → OrderLaws (ahead x) };
 }

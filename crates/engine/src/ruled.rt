@@ -25,7 +25,13 @@ impl<P: Decisions, R: Rule> Decisions for Ruled<P, R> {
 
     ghost moves = { λ p. ruled_moves (P.moves p.problem) (R.automaton p.rule) };
 
-    ghost move_laws = { λ p. ruled_move_laws (P.moves p.problem) (R.automaton p.rule) (P.move_laws p.problem) };
+    ghost valid = { λ p. P.valid p.problem };
+
+    ghost move_laws = { λ p valid. ruled_move_laws (P.moves p.problem) (R.automaton p.rule) (P.move_laws p.problem valid) };
+
+    fn lawful(&self) {
+        self.problem.lawful();
+    }
 
     fn stages(&self) -> usize {
         self.problem.stages()
@@ -57,7 +63,7 @@ impl<P: Decisions, R: Rule> Decisions for Ruled<P, R> {
 impl<P: Problem, R: Rule> Problem for Ruled<P, R> {
     ghost ahead = { λ p. ruled_order (P.ahead p.problem) };
 
-    ghost order_laws = { λ p. ruled_order_laws (P.ahead p.problem) (P.order_laws p.problem) };
+    ghost order_laws = { λ p valid. ruled_order_laws (P.ahead p.problem) (P.order_laws p.problem valid) };
 
     fn is_ahead(&self, state: Both<P::State, R::State>, other: Both<P::State, R::State>) -> bool {
         self.problem.is_ahead(state.one, other.one)

@@ -27,6 +27,7 @@ impl<P: Problem> Exploring<'_, P> {
     // Kept: `made` beside the struct. As a field that `keep_better` lends to `copy_from_slice` it was tried in four forms, and the goal that it is as
     // it was then stayed open. And stage and state come one by one, as in `Decisions`.
     fn explore(&mut self, stage: usize, state: P::State, made: &mut [u8])
+        requires valid { P.valid self.old.problem.now }
         requires came { Came (P.moves self.old.problem.now) stage state made.old }
         requires holds { Holds (in_order (P.moves self.old.problem.now) (P.ahead self.old.problem.now)) self.old.best.now self.old.room.now }
         requires known { Known (in_order (P.moves self.old.problem.now) (P.ahead self.old.problem.now)) self.old.seen.now self.old.best.now }
@@ -67,6 +68,7 @@ impl<P: Problem> Exploring<'_, P> {
     // Whether it is sure that no way on from a state beats the best so far, by the problem's bound or by the table. It isn't while there is no best and
     // nothing in the table.
     fn is_left_out(&self, stage: usize, state: P::State) -> bool
+        requires valid { P.valid self.now.problem.now }
         requires within { stage < (P.moves self.now.problem.now).stages }
         requires fine { (P.moves self.now.problem.now).fine stage state }
         requires holds { Holds (in_order (P.moves self.now.problem.now) (P.ahead self.now.problem.now)) self.now.best.now self.now.room.now }
@@ -102,6 +104,7 @@ impl<P: Problem> Exploring<'_, P> {
 
     // Keeps the run that was made if it ends ahead of the best so far.
     fn keep_better(&mut self, state: P::State, made: &[u8])
+        requires valid { P.valid self.old.problem.now }
         requires run { Run (P.moves self.old.problem.now) made.now state }
         requires holds { Holds (in_order (P.moves self.old.problem.now) (P.ahead self.old.problem.now)) self.old.best.now self.old.room.now }
         ensures same_problem { self.new.problem ≡ self.old.problem }
@@ -157,6 +160,7 @@ pub fn search<P: Problem>(
     ensures answered { Answered (in_order (P.moves problem.now) (P.ahead problem.now)) room.old result.best room.new }
     ensures counted { leads (P.moves problem.now).step 0 (P.moves problem.now).start room.old ≡ None → 0 < result.visited }
 {
+    problem.lawful();
     forget_all(seen);
     let mut best = end_of(problem, room);
     let mut exploring = Exploring {

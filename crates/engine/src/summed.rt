@@ -31,6 +31,7 @@ impl<G: Gains> Summed<G> {
         requires fine { (G.moves self.now.gains).fine stage state }
         ensures { MatchOption result ((G.moves self.now.gains).step stage choice state ≡ None) (λ n. (is_some ((G.moves self.now.gains).step stage choice state) ≡ true) × (G.gain self.now.gains stage choice state ≤ n)) }
     {
+        self.gains.lawful();
         let next = self.gains.step(stage, choice, state)?;
         let gain = self.gains.gain(stage, choice, state);
         if self.gains.stages() == stage + 1 {
@@ -65,7 +66,13 @@ impl<G: Gains> Decisions for Summed<G> {
 
     ghost moves = { λ p. tally_moves (gaining (G.moves p.gains) (G.gain p.gains) (G.most p.gains)) };
 
-    ghost move_laws = { λ p. tally_move_laws (gaining (G.moves p.gains) (G.gain p.gains) (G.most p.gains)) (G.move_laws p.gains) (G.sum_laws p.gains) };
+    ghost valid = { λ p. G.valid p.gains };
+
+    ghost move_laws = { λ p valid. tally_move_laws (gaining (G.moves p.gains) (G.gain p.gains) (G.most p.gains)) (G.move_laws p.gains valid) (G.sum_laws p.gains valid) };
+
+    fn lawful(&self) {
+        self.gains.lawful();
+    }
 
     fn stages(&self) -> usize {
         self.gains.stages()
@@ -83,6 +90,7 @@ impl<G: Gains> Decisions for Summed<G> {
     }
 
     fn step(&self, stage: usize, choice: u8, at: Tally<G::State>) -> Option<Tally<G::State>> {
+        self.gains.lawful();
         let state = self.gains.step(stage, choice, at.state)?;
         Some(Tally {
             state,
@@ -94,7 +102,7 @@ impl<G: Gains> Decisions for Summed<G> {
 impl<G: Gains> Problem for Summed<G> {
     ghost ahead = { λ p. tally_order };
 
-    ghost order_laws = { λ p. tally_order_laws };
+    ghost order_laws = { λ p valid. tally_order_laws };
 
     fn is_ahead(&self, state: Tally<G::State>, other: Tally<G::State>) -> bool {
         state.gained > other.gained

@@ -1,5 +1,5 @@
 // Small problems: one of which some sizes have no run at all, and one of which most is left out.
-ghost use Rattle.std.specs.Prelude.{◌+◌, ◌-◌, ◌%◌, ◌<◌, cond, not, ◌&&◌, ◌==◌, Some, None, nat_le, nat_lt};
+ghost use Rattle.std.specs.Prelude.{◌+◌, ◌-◌, ◌*◌, ◌^◌, ◌%◌, ◌<◌, cond, not, ◌&&◌, ◌==◌, Some, None, nat_le, nat_lt};
 ghost use Rattle.std.proofs.Common.{arith};
 ghost use Rattle.std.proofs.lemmas.Bool.Decides.{nat_tests};
 
@@ -22,11 +22,13 @@ impl Decisions for Rising {
       fine = λ i s. s < 4;
     } };
 
-    ghost move_laws = { λ p. record {
+    ghost move_laws = { λ p valid. record {
       fine_start = Prim.grind (arith, nat_tests);
       fine_step = λ i c s t l fine h. Prim.grind (arith, nat_tests);
       offered = λ i c s t l fine h. Prim.grind (arith, nat_tests);
     } };
+
+    fn lawful(&self) {}
 
     fn stages(&self) -> usize {
         self.stages
@@ -48,7 +50,7 @@ impl Decisions for Rising {
 impl Problem for Rising {
     ghost ahead = { λ p s t. nat_lt s t };
 
-    ghost order_laws = { λ p. record {
+    ghost order_laws = { λ p valid. record {
       not_itself = λ s. Prim.grind (arith, nat_tests);
       onward = λ s t u h k. Prim.grind (arith, nat_tests);
     } };
@@ -73,11 +75,13 @@ impl Decisions for Apart {
       fine = λ i s. s < 2;
     } };
 
-    ghost move_laws = { λ p. record {
+    ghost move_laws = { λ p valid. record {
       fine_start = Prim.grind (arith, nat_tests);
       fine_step = λ i c s t l fine h. Prim.grind (arith, nat_tests);
       offered = λ i c s t l fine h. Prim.grind (arith, nat_tests);
     } };
+
+    fn lawful(&self) {}
 
     fn stages(&self) -> usize {
         6
@@ -101,7 +105,7 @@ impl Gains for Apart {
 
     ghost most = { λ p. 3 };
 
-    ghost sum_laws = { λ p. record {
+    ghost sum_laws = { λ p valid. record {
       at_most = λ i c s t l fine h. Prim.grind (arith, nat_tests);
       fits = Prim.omega arith;
     } };
@@ -120,6 +124,97 @@ impl Gains for Apart {
 
     fn slot(&self, stage: usize, state: u8) -> u64 {
         2 * stage as u64 + u64::from(state)
+    }
+}
+
+// Coins of one worth, of which each is taken or left. All of them together fit 64 bits, since the worth fits 32 bits and their number 8.
+#[derive(Clone, Copy, Drop)]
+struct Coins {
+    worth: u32,
+    count: u8,
+}
+
+// What all coins together are worth fits 64 bits.
+fn all_fit(worth: u32, count: u8)
+    ensures { count * worth < 2 ^ 64 }
+{}
+
+impl Decisions for Coins {
+    type State = ();
+
+    ghost moves = { λ p. record {
+      stages = p.count;
+      choices = λ i. 2;
+      start = tt;
+      step = λ i c s. cond (nat_lt c 2) (Some tt) None;
+      fine = λ i s. Unit {0};
+    } };
+
+    ghost valid = { λ p. p.count * p.worth < 2 ^ 64 };
+
+    fn lawful(&self) {
+        all_fit(self.worth, self.count);
+    }
+
+    ghost move_laws = { λ p valid. record {
+      fine_start = tt;
+      fine_step = λ i c s t l fine h. tt;
+      offered = λ i c s t l fine h. Prim.grind (arith, nat_tests);
+    } };
+
+    fn stages(&self) -> usize {
+        self.count as usize
+    }
+
+    fn choices(&self, _stage: usize) -> u8 {
+        2
+    }
+
+    fn start(&self) {}
+
+    fn step(&self, _stage: usize, choice: u8, _state: ()) -> Option<()> {
+        (choice < 2).then_some(())
+    }
+}
+
+impl Gains for Coins {
+    ghost gain = { λ p i c s. cond (nat_lt 0 c) p.worth 0 };
+
+    ghost most = { λ p. p.worth };
+
+    ghost sum_laws = { λ p valid. record {
+      at_most = λ i c s t l fine h. Prim.grind (arith, nat_tests);
+      fits = valid;
+    } };
+
+    fn gain(&self, _stage: usize, choice: u8, _state: ()) -> u64 {
+        if choice > 0 { self.worth as u64 } else { 0 }
+    }
+
+    fn bound(&self, stage: usize, _state: ()) -> u64 {
+        self.lawful();
+        (self.count as u64 - stage as u64) * self.worth as u64
+    }
+}
+
+#[test]
+fn the_most_of_coins(rt: HostRuntime) {
+    for (worth, count, most) in [
+        (0, 3, 0),
+        (7, 0, 0),
+        (7, 3, 21),
+        (u32::MAX, 4, 17_179_869_180),
+    ] {
+        let problem = Summed {
+            gains: Coins { worth, count },
+        };
+        let mut made = [7; 4];
+        let mut room = [9; 4];
+        let stages = count as usize;
+        assert_eq!(rt;
+            gain_most(&problem, &mut made[..stages], &mut [], &mut room[..stages]).most,
+            Some(most)
+        );
     }
 }
 

@@ -62,7 +62,9 @@ impl Decisions for Scheduling<'_> {
 
     ghost moves = { λ p. (night p.night.turns.now p.night.passes.now).moves };
 
-    ghost move_laws = { λ p. night_moves p.night.turns.now p.night.passes.now };
+    ghost move_laws = { λ p valid. night_moves p.night.turns.now p.night.passes.now };
+
+    fn lawful(&self) {}
 
     fn stages(&self) -> usize {
         self.night.passes.len()
@@ -97,7 +99,7 @@ impl Gains for Scheduling<'_> {
 
     ghost most = { λ p. (night p.night.turns.now p.night.passes.now).most };
 
-    ghost sum_laws = { λ p. night_sums p.night.turns.now p.night.passes.now p.small p.night.few_passes };
+    ghost sum_laws = { λ p valid. night_sums p.night.turns.now p.night.passes.now p.small p.night.few_passes };
 
     fn gain(&self, stage: usize, choice: u8, _state: FreeFrom) -> u64 {
         // Kept: which dish follows the pass isn't asked here, so `checked_sub` would be no plainer than a test for 0.

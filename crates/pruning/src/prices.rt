@@ -127,7 +127,9 @@ impl Decisions for Priced<'_> {
 
     ghost moves = { λ p. (rounded_night p.night.turns.now p.night.passes.now).moves };
 
-    ghost move_laws = { λ p. rounded_moves p.night.turns.now p.night.passes.now };
+    ghost move_laws = { λ p valid. rounded_moves p.night.turns.now p.night.passes.now };
+
+    fn lawful(&self) {}
 
     fn stages(&self) -> usize {
         self.night.passes.len()
@@ -151,7 +153,7 @@ impl Gains for Priced<'_> {
 
     ghost most = { λ p. (rounded_night p.night.turns.now p.night.passes.now).most };
 
-    ghost sum_laws = { λ p. rounded_sums p.night.turns.now p.night.passes.now p.small p.night.few_passes };
+    ghost sum_laws = { λ p valid. rounded_sums p.night.turns.now p.night.passes.now p.small p.night.few_passes };
 
     fn gain(&self, stage: usize, choice: u8, _state: NextPasses) -> u64 {
         // Kept: which dish follows the pass isn't asked here, so `checked_sub` would be no plainer than a test for 0.

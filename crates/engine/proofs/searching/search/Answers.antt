@@ -6,7 +6,7 @@ use Rattle.engine.proofs.searching.search.Goals as goal
 
 pub explore-requires-clause-came : goal.explore-requires-clause-came
 unfolding leads
-explore-requires-clause-came g c = record { within = omega arith; a_place_each = c.requires.a_place_each; fine = rw c.start.ensures (g.met.P.Decisions.move_laws c.args.problem.now).fine_start; leads_here = search rules }
+explore-requires-clause-came g c = record { within = omega arith; a_place_each = c.requires.a_place_each; fine = rw c.start.ensures (g.met.P.Decisions.move_laws c.args.problem.now c.lawful.ensures).fine_start; leads_here = search rules }
 
 pub explore-requires-clause-holds : goal.explore-requires-clause-holds
 explore-requires-clause-holds g c =

@@ -11,10 +11,10 @@ explore-requires g t c κs within =
     let l = c.loop-turn in
     let v = g.P.Decisions.moves a.self.now.problem.now in
     let came = came_front v a.stage a.state a.made.now l.made (omega (arith, c.requires.came.a_place_each)) l.invariant.same_front c.requires.came in
-    let more = came_more v (g.met.P.Decisions.move_laws a.self.now.problem.now) a.stage a.state l.made c.choice_at-choice.result c.in-Some.next (omega (arith, c.requires.came.within, c.stages.ensures, c.if-stage-stages.false)) came (search rules) in
+    let more = came_more v (g.met.P.Decisions.move_laws a.self.now.problem.now c.requires.valid) a.stage a.state l.made c.choice_at-choice.result c.in-Some.next (omega (arith, c.requires.came.within, c.stages.ensures, c.if-stage-stages.false)) came (search rules) in
     let same = l.invariant.same_problem in
     let stages = ap (λ q. (g.P.Decisions.moves q.now).stages) same in
-    (omega (arith, c.decreases, stages, c.requires.came.within, c.stages.ensures, c.if-stage-stages.false), (within.0, (within.1, (rw same more, (rw same l.invariant.improved.holds, rw same l.invariant.known)))))
+    (omega (arith, c.decreases, stages, c.requires.came.within, c.stages.ensures, c.if-stage-stages.false), (within.0, (within.1, (rw same c.requires.valid, (rw same more, (rw same l.invariant.improved.holds, rw same l.invariant.known))))))
 
 pub loop-turn-preserved : goal.loop-turn-preserved
 loop-turn-preserved g t c =
@@ -31,7 +31,7 @@ loop-turn-preserved g t c =
             same_room = told.same_room ∙ l.invariant.same_room;
             same_best = told.same_best ∙ l.invariant.same_best;
             same_table = told.same_table ∙ l.invariant.same_table;
-            improved = improved_more m (g.met.P.Problem.order_laws p) a.self.now.best.now l.self.best.now w.explore.new.self.best.now a.self.now.room.now l.self.room.now w.explore.new.self.room.now l.invariant.improved better;
+            improved = improved_more m (g.met.P.Problem.order_laws p c.requires.valid) a.self.now.best.now l.self.best.now w.explore.new.self.best.now a.self.now.room.now l.self.room.now w.explore.new.self.room.now l.invariant.improved better;
             known = rw l.invariant.same_problem at told.known;
             tried = tried_more m a.stage a.state c.min-first.result l.turn w.in-Some.next (search rules) better (rw l.invariant.same_problem at told.unbeaten) l.invariant.tried;
             counted = told.counted (inl l.invariant.counted);
@@ -59,7 +59,7 @@ returns g t c =
     let end : l.turn ≡ m.moves.choices a.stage = omega arith in
     let before : a.stage < m.moves.stages = omega (arith, c.requires.came.within, c.stages.ensures, c.if-stage-stages.false) in
     let fine = c.requires.came.fine in
-    let none = tried_all m (g.met.P.Decisions.move_laws p) a.stage a.state c.min-first.result l.self.best.now before fine (omega arith) (rw end at l.invariant.tried) in
+    let none = tried_all m (g.met.P.Decisions.move_laws p c.requires.valid) a.stage a.state c.min-first.result l.self.best.now before fine (omega arith) (rw end at l.invariant.tried) in
     record {
       same_problem = l.invariant.same_problem;
       same_room = l.invariant.same_room;

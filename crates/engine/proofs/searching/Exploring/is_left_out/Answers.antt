@@ -7,4 +7,4 @@ is_hopeless-requires-clause-best_fine g c =
     let a = c.args.self.now in
     let p = a.problem.now in
     let m = in_order (g.P.Decisions.moves p) (g.P.Problem.ahead p) in
-    rw c.in-Some.is at (fine_best m (g.met.P.Decisions.move_laws p) a.best.now a.room.now c.requires.holds)
+    rw c.in-Some.is at (fine_best m (g.met.P.Decisions.move_laws p c.requires.valid) a.best.now a.room.now c.requires.holds)
