@@ -9,9 +9,8 @@ use Rattle.passes.specs.Checks.{checked}
 use Rattle.passes.specs.Plans.{Plan, fits, worth_of, Best}
 use Rattle.passes.specs.Rule.{nth}
 use Rattle.capacity.specs.Order.{InTime}
-use Rattle.pruning.specs.declared.rounding.TheConstants.{WIDE_DISHES}
 use Rattle.pruning.specs.declared.rounding.NextPasses.{NextPasses}
-use Rattle.pruning.specs.Rounding.{next_pass, each_dish, rounded_night}
+use Rattle.pruning.specs.Rounding.{next_pass, each_dish, max_wide_dishes, rounded_night}
 use Rattle.planner.specs.declared.scheduling.FreeFrom.{FreeFrom}
 use Rattle.planner.specs.Dishes.{fits_each, turns_of}
 use Rattle.planner.specs.Nights.{night}
@@ -24,7 +23,7 @@ pub record PlansAreRuns {S : Type 0} (good : Plan → Bool) (ps : List Pass) (g 
 
 -- for up to eight dishes, each of which takes its own time to turn, and passes in order of begin, the good plans are the runs of the night
 abbrev pub EachIsNight : Type 0
-EachIsNight = (turns : List ℕ) (ps : List Pass) → length turns ≤ WIDE_DISHES → InTime ps → PlansAreRuns (fits_each turns ps) ps (night turns ps)
+EachIsNight = (turns : List ℕ) (ps : List Pass) → length turns ≤ max_wide_dishes → InTime ps → PlansAreRuns (fits_each turns ps) ps (night turns ps)
 
 -- for a station and a list that pass the checks, the good plans are the runs of the night
 abbrev pub StationIsNight : Type 0
@@ -41,7 +40,7 @@ pub record ChangesNoRun (turns : List ℕ) (ps : List Pass) : Type 0 where
 
 -- for up to eight dishes, each with its own time to turn, and passes in order of time, rounding up changes no run
 abbrev pub RoundingUp : Type 0
-RoundingUp = (turns : List ℕ) (ps : List Pass) → length turns ≤ WIDE_DISHES → InTime ps → ChangesNoRun turns ps
+RoundingUp = (turns : List ℕ) (ps : List Pass) → length turns ≤ max_wide_dishes → InTime ps → ChangesNoRun turns ps
 
 -- every list of passes, sorted or not, has a best plan
 abbrev pub HasBest : Type 0

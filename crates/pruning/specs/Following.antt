@@ -1,6 +1,5 @@
 -- Which pass a dish can follow after another. Assumes nothing: a definition, and that any two proofs of it are the same.
 use Rattle.std.specs.Prelude.{ℕ, ◌<◌, List, [], length, take, slice_index, slice_index_or}
-use Rattle.std.proofs.Props.{props}
 use Rattle.passes.specs.declared.model.Pass.{Pass}
 use Rattle.capacity.specs.Order.{Successors, Successors-prop}
 

@@ -6,7 +6,7 @@ use Rattle.passes.specs.declared.model.Pass.{Pass}
 use Rattle.passes.specs.Follow.{may}
 use Rattle.passes.specs.Rule.{nth}
 use Rattle.capacity.specs.Order.{InTime}
-use Rattle.pruning.specs.declared.rounding.TheConstants.{WIDE_DISHES, WIDE_PASSES}
+use Rattle.pruning.specs.declared.rounding.TheConstants.{WIDE_DISHES}
 use Rattle.pruning.specs.declared.rounding.NextPasses.{NextPasses}
 
 -- dish d is there and may follow the pass, which begins in the second x or later
@@ -58,10 +58,18 @@ NoLater a b = (d : ℕ) → d < WIDE_DISHES → slice_index a.next d ≤ slice_i
 abbrev pub Small : List Pass → Type 0
 Small ps = (i : ℕ) → i < length ps → (nth ps i).worth < 2 ^ 32
 
+-- how many dishes a wide night may have
+abbrev pub max_wide_dishes : ℕ
+max_wide_dishes = 8
+
+-- how many passes a wide night may have
+abbrev pub max_wide_passes : ℕ
+max_wide_passes = 128
+
 -- so many dishes and passes as there can be, and passes in order of time
 pub record FitsNight (turns : List ℕ) (ps : List Pass) : Type 0 where
-  pub few_dishes : length turns ≤ WIDE_DISHES
-  pub few_passes : length ps ≤ WIDE_PASSES
+  pub few_dishes : length turns ≤ max_wide_dishes
+  pub few_passes : length ps ≤ max_wide_passes
   pub in_time : InTime ps
 
 -- the night: a decision on each pass, in their order, by which the passes that are followed are gained

@@ -3,8 +3,8 @@ ghost use Rattle.std.specs.Prelude.{◌≡◌, ◌+◌, ◌<◌, ◌≤◌, ◌&
 ghost use Rattle.passes.specs.Follow.{may};
 ghost use Rattle.passes.specs.Rule.{nth};
 ghost use Rattle.capacity.specs.Order.{InTime, InTime-prop};
-ghost use Rattle.pruning.specs.declared.rounding.TheConstants.{WIDE_DISHES, WIDE_PASSES};
-ghost use Rattle.pruning.specs.Rounding.{suits, next_pass, allowed, next_then, go_on, NoLater, FitsNight, rounded_night};
+ghost use Rattle.pruning.specs.declared.rounding.TheConstants.{WIDE_DISHES};
+ghost use Rattle.pruning.specs.Rounding.{suits, next_pass, allowed, next_then, go_on, NoLater, FitsNight, max_wide_dishes, max_wide_passes, rounded_night};
 
 use passes::Pass;
 
@@ -57,8 +57,8 @@ impl NextPasses {
 pub struct WideNight<'a> {
     pub turns: &'a [u32],
     pub passes: &'a [Pass],
-    pub ghost few_dishes: { length turns.now ≤ WIDE_DISHES },
-    pub ghost few_passes: { length passes.now ≤ WIDE_PASSES },
+    pub ghost few_dishes: { length turns.now ≤ max_wide_dishes },
+    pub ghost few_passes: { length passes.now ≤ max_wide_passes },
     pub ghost in_time: { InTime passes.now } by { InTime-prop passes.now },
 }
 

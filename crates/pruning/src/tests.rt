@@ -58,6 +58,18 @@ fn eight_dishes(rt: HostRuntime) {
     }
 }
 
+// The first eight of those passes, and a ninth that only the last dish may follow: it has turned by then, or it hasn't.
+#[test]
+fn a_dish_with_its_own_turning(rt: HostRuntime) {
+    let mut passes = by_eights::<9>();
+    passes[8].marks = 128;
+    for (turn, followed) in [(10, 9), (11, 8)] {
+        let turns = [0, 10, 2, 3, 4, 5, 6, turn];
+        let most = gained(&turns, &passes).and_then(|found| found.most);
+        assert_eq!(rt; most, Some(followed * u32::MAX as u64));
+    }
+}
+
 // The auction gives no pass to a dish then, which is the best run there is. Without passes the start is an end.
 #[test]
 fn nothing_to_gain(rt: HostRuntime) {
