@@ -64,6 +64,25 @@ fn worths_of(passes: &[Pass]) -> [u64; MAX_PASSES]
     gains
 }
 
+// The first pass that begins in this second or later, or the number of passes if none does.
+// Kept: halved by hand. With `partition_point` planning for one dish took up to twice as long.
+fn first_from(passes: &[Pass], second: u64) -> usize
+    requires { InTime passes.now }
+    ensures { FirstFrom passes.now second result }
+{
+    let mut low = 0;
+    let mut high = passes.len();
+    while low < high {
+        let middle = low + (high - low) / 2;
+        if (passes[middle].from as u64) < second {
+            low = middle + 1;
+        } else {
+            high = middle;
+        }
+    }
+    low
+}
+
 // One dish of a station, and passes in order of time.
 #[derive(Clone, Copy)]
 pub struct OneDish<'a> {
@@ -140,8 +159,6 @@ impl OneDish<'_> {
     fn next_after(&self, pass: Pass) -> usize
         ensures { FirstFrom self.now.passes.now (pass.to + self.now.station.turn) result }
     {
-        let turned = pass.to as u64 + self.station.turn as u64;
-        self.passes
-            .partition_point(|later| (later.from as u64) < turned)
+        first_from(self.passes, pass.to as u64 + self.station.turn as u64)
     }
 }

@@ -136,7 +136,7 @@ impl Judged<'_> {
     {
         let (pass, named) = (self.passes[i], self.plan[i]);
         (0..self.passes.len()).find(|&j| {
-            j != i && self.plan[j] == named && !pass.one_after(self.passes[j], self.station.turn)
+            self.plan[j] == named && j != i && !pass.one_after(self.passes[j], self.station.turn)
         })
     }
 
