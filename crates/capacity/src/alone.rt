@@ -6,6 +6,7 @@ ghost use Rattle.passes.specs.Follow.{may};
 ghost use Rattle.passes.specs.Nights.{passes_of, station_of};
 ghost use Rattle.passes.specs.Numbers.{passes_in};
 ghost use Rattle.passes.specs.Refusals.{refused_with_room};
+ghost use Rattle.passes.specs.Rule.{nth};
 ghost use Rattle.capacity.specs.Alone.{BestAlone, RightFrom, worths, BestPlanWorth};
 ghost use Rattle.capacity.specs.Order.{InTime, InTime-prop, FirstFrom, Successors};
 
@@ -16,7 +17,9 @@ use passes::{MAX_PASSES, Night, Pass, Refusal, Station};
 const MAX_ENTRIES: usize = MAX_PASSES + 1;
 
 // Leaves a best plan for a station with one dish in the room, and says what it is worth.
+// Built into its callers: as a call of its own it copies the night and its worths once more, and three passes took 1.6 to 1.8 times as long.
 // Kept: what it is lent comes one by one, as in `Night::read`, and the room is to be written.
+#[inline(always)]
 pub fn plan_one_dish(turn: u64, numbers: &[u32], room: &mut [u8]) -> Result<u64, Refusal>
     ensures refusal { result_err result ≡ refused_with_room 1 turn numbers.now (length room.old) }
     ensures planned { MatchResult result (λ w. BestPlanWorth (station_of 1 turn) (passes_in numbers.now) room.new w) (λ _. room.new ≡ room.old) }
@@ -64,25 +67,6 @@ fn worths_of(passes: &[Pass]) -> [u64; MAX_PASSES]
     gains
 }
 
-// The first pass that begins in this second or later, or the number of passes if none does.
-// Kept: halved by hand. With `partition_point` planning for one dish took up to twice as long.
-fn first_from(passes: &[Pass], second: u64) -> usize
-    requires { InTime passes.now }
-    ensures { FirstFrom passes.now second result }
-{
-    let mut low = 0;
-    let mut high = passes.len();
-    while low < high {
-        let middle = low + (high - low) / 2;
-        if (passes[middle].from as u64) < second {
-            low = middle + 1;
-        } else {
-            high = middle;
-        }
-    }
-    low
-}
-
 // One dish of a station, and passes in order of time.
 #[derive(Clone, Copy)]
 pub struct OneDish<'a> {
@@ -100,8 +84,8 @@ impl OneDish<'_> {
         requires one_each { length after.old ≡ length self.now.passes.now }
         ensures { let one = self.now in Successors one.station.turn one.passes.now after.new }
     {
-        for (i, pass) in self.passes.iter().enumerate() {
-            after[i] = self.next_after(*pass);
+        for i in 0..self.passes.len() {
+            after[i] = self.next_after(i);
         }
     }
 
@@ -155,10 +139,14 @@ impl OneDish<'_> {
         self.dish < self.station.dishes && pass.may_be_followed_by(self.dish)
     }
 
-    // The first pass that begins late enough after this one, or the number of passes if none does.
-    fn next_after(&self, pass: Pass) -> usize
-        ensures { FirstFrom self.now.passes.now (pass.to + self.now.station.turn) result }
+    // The first pass that begins late enough after pass i, or the number of passes if none does. It is looked for behind pass i, as no pass
+    // up to there begins after pass i ends.
+    fn next_after(&self, i: usize) -> usize
+        requires within { i < length self.now.passes.now }
+        ensures { let one = self.now in FirstFrom one.passes.now ((nth one.passes.now i).to + one.station.turn) result }
     {
-        first_from(self.passes, pass.to as u64 + self.station.turn as u64)
+        let turned = self.passes[i].to as u64 + self.station.turn as u64;
+        let behind = &self.passes[i + 1..];
+        i + 1 + behind.partition_point(|later| (later.from as u64) < turned)
     }
 }
